@@ -1,8 +1,10 @@
-// Flat arrays over memory of many lengths: how many blocks they have, what is erased and what stays, and which row is the last.
+// Arrays of every make: flat arrays over memory of many lengths, defect arrays and stacks.
 mod flat_cases;
+mod stack_cases;
 
 use std::io;
 
 fn main(rt: LibcRuntime) -> io::Result<()> {
-    flat_cases::run(&rt)
+    flat_cases::run(&rt)?;
+    stack_cases::run(&rt)
 }
