@@ -41,6 +41,10 @@ pub impl Word for u8 as ByteWord {
         self
     }
 
+    fn torn_code(c: u16) -> u16 {
+        c
+    }
+
     fn torn_erase() -> u8 {
         Self::erased()
     }

@@ -85,6 +85,11 @@ pub impl Word for DoubtingByte as DoubtingWord {
         }
     }
 
+    fn torn_code(c: u16) -> u16 {
+        let erased = (c % 256) as u8;
+        erased as u16 + 256 * torn_doubt(erased) as u16
+    }
+
     fn torn_erase() -> DoubtingByte {
         DoubtingByte {
             erased: 0,

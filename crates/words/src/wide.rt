@@ -37,6 +37,10 @@ pub impl Word for u16 as WideWord {
         self
     }
 
+    fn torn_code(c: u16) -> u16 {
+        c
+    }
+
     fn torn_erase() -> u16 {
         Self::erased()
     }

@@ -38,6 +38,10 @@ pub trait Word: Copy {
     fn torn(self) -> Self
         ensures { λ r. ⌜ code r ≡ kind .torn (code self) ⌝ };
 
+    // The same on codes, lawful or not.
+    fn torn_code(c: u16) -> u16
+        ensures { λ r. ⌜ r ≡ kind .torn c ⌝ };
+
     // What an interrupted erase leaves.
     fn torn_erase() -> Self
         ensures { λ r. ⌜ code r ≡ kind .torn-erase ⌝ };
