@@ -1,0 +1,15 @@
+pub mod Lows
+pub mod Orders
+pub mod Failures
+pub mod Registers
+pub mod Landed
+pub mod Pages
+pub mod Logs
+pub mod Exist
+pub mod Rests
+pub mod Locks
+pub mod Beyond
+pub mod Benches
+pub mod Willing
+pub mod Tours
+pub mod Fetched

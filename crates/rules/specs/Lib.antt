@@ -1,0 +1,12 @@
+pub mod Parts
+pub mod Commands
+pub mod Controls
+pub mod Answering
+pub mod Asking
+pub mod Moving
+pub mod Running
+pub mod Written
+pub mod Equality
+pub mod Conduct
+pub mod Bench
+pub mod Tour
