@@ -2,7 +2,6 @@
 ghost use mathlib.Core.Path.{_≡_};
 ghost use Prim.Native.Nat.{ℕ};
 ghost use Rattle.rules.specs.Answering.{fits};
-ghost use Rattle.rules.specs.Moving.{start-refused, after-reset};
 ghost use Rattle.rules.specs.Controls.{fresh, status-of, in-range, is-open, is-protected, lock-code};
 use crate::part::Part;
 use crate::part::Pointer;
@@ -81,23 +80,6 @@ impl Control {
             tight: false,
             range: None,
         }
-    }
-
-    // A start was refused: nothing has started, the fail bit is 1, and read gives the status.
-    pub fn refuse_start(&mut self)
-        ensures { λ _. ⌜ now (self .exit) ≡ start-refused (now (self .entry)) ⌝ }
-    {
-        self.state = State::Status;
-        self.fail = true;
-    }
-
-    // FFh: the fail bit is cleared, the pointer is on area A, and a column cycle of a read is next.
-    pub fn reset(&mut self)
-        ensures { λ _. ⌜ now (self .exit) ≡ after-reset (now (self .entry)) ⌝ }
-    {
-        self.state = State::Column(Purpose::Read);
-        self.pointer = Pointer::A;
-        self.fail = false;
     }
 
     // The status byte.

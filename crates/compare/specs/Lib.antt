@@ -1,0 +1,4 @@
+pub mod Differences
+pub mod Played
+pub mod Compared
+pub mod Errors
