@@ -1,6 +1,6 @@
 -- Why two chips were not compared. Assumes nothing.
 use mathlib.Core.Path.{_≡_}
-use Prim.Native.Nat.{ℕ, _^_, _≤_}
+use Prim.Native.Nat.{ℕ, _^_, _<_, _≤_}
 use mathlib.Core.List.{List}
 use Rattle.records.specs.declared.call.Call.{Call}
 use Rattle.std.specs.declared.option.Option.{Option}
@@ -14,7 +14,7 @@ use Rattle.compare.specs.declared.error.CompareError.{CompareError}
 
 -- two lists of calls on arrays of so many blocks
 abbrev pub Calls-refused : ℕ → CompareError → Type 0
-Calls-refused blocks CompareError.NoMemory = Unit {0}
+Calls-refused blocks CompareError.NoMemory = blocks < 2 ^ 32
 Calls-refused blocks CompareError.TooLarge = 2 ^ 32 ≤ blocks
 Calls-refused blocks (CompareError.NotRead side error) = ⊥
 
@@ -24,7 +24,7 @@ Accepted trace = (calls : List Call) × Reading trace calls
 
 -- Two traces: one that is not read is told with the place where reading stopped, the first before the second.
 abbrev pub Traces-refused : ℕ → List ℕ → List ℕ → CompareError → Type 0
-Traces-refused blocks trace trace′ CompareError.NoMemory = Accepted trace × Accepted trace′
+Traces-refused blocks trace trace′ CompareError.NoMemory = (blocks < 2 ^ 32) × Accepted trace × Accepted trace′
 Traces-refused blocks trace trace′ CompareError.TooLarge = (2 ^ 32 ≤ blocks) × Accepted trace × Accepted trace′
 Traces-refused blocks trace trace′ (CompareError.NotRead Side.One error) = Refuses trace error
 Traces-refused blocks trace trace′ (CompareError.NotRead Side.Other error) = Accepted trace × Refuses trace′ error
