@@ -1,6 +1,5 @@
 // The shape of a flat array, over words and counts that are one short, exact or to spare.
-use arrays::CellArray;
-use flat::FlatArray;
+use arrays::{CellArray, FlatArray};
 use std::io;
 
 // What memory holds before an array is made over it.

@@ -1,6 +1,5 @@
 // A flat array and a defect array as one stack, and a stack of stacks.
-use arrays::{CellArray, DefectArray, Stack};
-use flat::FlatArray;
+use arrays::{CellArray, DefectArray, FlatArray, Stack};
 use std::alloc::{AllocError, Global};
 use std::io;
 

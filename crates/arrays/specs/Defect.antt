@@ -18,8 +18,8 @@ defect m list = record {
 }
 
 -- What listing a block answers: it is refused outside the array; one that is listed already is taken, also when the list is full; then a full list refuses.
-abbrev pub list_answer : ℕ → List ℕ → ℕ → Result ℕ Refusal
-list_answer blocks list block =
+abbrev pub listing : ℕ → List ℕ → ℕ → Result ℕ Refusal
+listing blocks list block =
     cond (nat_lt block blocks) (cond (listed list block) (Ok 0) (cond (nat_lt (length list) 32) (Ok 0) (Err ListFull))) (Err Outside)
 
 -- the list after it: longer by the block where it is taken and was not listed, else as it was

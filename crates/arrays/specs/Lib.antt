@@ -1,4 +1,5 @@
 pub mod Meaning
+pub mod Flat
 pub mod Rest
 pub mod Stack
 pub mod Defect

@@ -1,7 +1,6 @@
--- What an array has beside its meaning, and no program and no fill changes: which memory was lent to it, what lies there beyond its shape, which blocks are listed as
--- defective. Assumes nothing.
-use Rattle.std.specs.Prelude.{◌≡◌, ℕ, List}
-use Rattle.arrays.specs.Meaning.{Meaning}
+-- What an array has beside its meaning, and no call on it changes: which memory was lent to it, and what lies there beyond its shape. Assumes nothing.
+use Rattle.std.specs.Prelude.{ℕ, ◌+◌, ◌*◌, List, length, slice_index}
+use Rattle.arrays.specs.Flat.{flat_blocks}
 
 -- the memory lent to a flat array: the ghost names of the two slices, their lengths, the columns, and what the slices hold after the shape's own places
 pub record Lent : Type 0 where
@@ -16,13 +15,22 @@ pub record Lent : Type 0 where
 pub data Rest : Type 0 where
   lent : Lent → Rest
   both : Rest → Rest → Rest
-  -- an array with these blocks listed as defective
-  listing : List ℕ → Rest → Rest
   -- an array behind a reference of this name
   behind : ℕ → Rest → Rest
 
--- The meaning is that of an array of one type with one rest: of the same make, over the same memory, with the same blocks listed.
-pub record OfMake {A : Type 0} (meaning : A → Meaning) (rest : A → Rest) (r : Rest) (m : Meaning) : Type 0 where
-  pub array : A
-  pub means : meaning array ≡ m
-  pub rests : rest array ≡ r
+-- what a list has after its first n
+abbrev pub after : ℕ → List ℕ → ℕ → ℕ
+after n xs i = slice_index xs (n + i)
+
+abbrev pub flat_lent : ℕ → ℕ → ℕ → List ℕ → List ℕ → Lent
+flat_lent words_name counts_name columns codes counts =
+    let n : ℕ = flat_blocks columns (length codes) (length counts) in
+    record {
+      words_name = words_name;
+      counts_name = counts_name;
+      columns = columns;
+      words_length = length codes;
+      counts_length = length counts;
+      words_beyond = after (n * (32 * columns)) codes;
+      counts_beyond = after (32 * n) counts;
+    }

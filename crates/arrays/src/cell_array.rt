@@ -6,9 +6,6 @@ ghost use Rattle.arrays.specs.Rest.{Rest};
 
 use words::Word;
 
-// The most blocks that a flat array or a stack has.
-pub const MOST_BLOCKS: usize = 4096;
-
 pub trait CellArray {
     // the stored word, which has the array's word kind
     type Stored: Word;
@@ -16,7 +13,7 @@ pub trait CellArray {
     // what the array means
     ghost meaning: { Self → Meaning };
 
-    // what the array has beside its meaning, and no program and no fill changes
+    // what the array has beside its meaning, and no call changes
     ghost rest: { Self → Rest };
 
     // The number of blocks. With it come the laws of every array, which a proof cites from this call.

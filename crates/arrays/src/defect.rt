@@ -2,8 +2,7 @@
 ghost use Rattle.std.specs.Prelude.{◌≡◌, ℕ, [], take};
 ghost use Rattle.words.specs.Kind.{Kind};
 ghost use Rattle.arrays.specs.Meaning.{Meaning, MeaningLaws, Performs};
-ghost use Rattle.arrays.specs.Defect.{defect, listed, list_answer, list_after};
-ghost use Rattle.arrays.specs.Rest.{listing};
+ghost use Rattle.arrays.specs.Defect.{defect, listed, listing, list_after};
 
 use crate::cell_array::CellArray;
 use crate::defect_list::DefectList;
@@ -44,7 +43,7 @@ impl<A: CellArray> DefectArray<A> {
 
     // Lists a block. One outside the array is refused; one that is listed already is taken and changes nothing; then a full list refuses.
     pub fn list(&mut self, block: usize) -> Result<u16, Refusal>
-        ensures answer { result ≡ list_answer (meaning self.old.below).holds.shape.blocks (take self.old.list.used self.old.list.blocks) block }
+        ensures answer { result ≡ listing (meaning self.old.below).holds.shape.blocks (take self.old.list.used self.old.list.blocks) block }
         ensures after { take self.new.list.used self.new.list.blocks ≡ list_after (meaning self.old.below).holds.shape.blocks (take self.old.list.used self.old.list.blocks) block }
         ensures below { self.new.below ≡ self.old.below }
     {
@@ -67,7 +66,7 @@ impl<A: CellArray> CellArray for DefectArray<A> {
 
     ghost meaning = { λ x. defect (A.CellArray.meaning x.below) (take x.list.used x.list.blocks) };
 
-    ghost rest = { λ x. listing (take x.list.used x.list.blocks) (A.CellArray.rest x.below) };
+    ghost rest = { λ x. A.CellArray.rest x.below };
 
     fn blocks(&self) -> usize {
         self.below.blocks()

@@ -5,9 +5,11 @@ ghost use Rattle.arrays.specs.Meaning.{Meaning, MeaningLaws, Performs};
 ghost use Rattle.arrays.specs.Rest.{both};
 ghost use Rattle.arrays.specs.Stack.{stack, stack_blocks};
 
-use crate::cell_array::{CellArray, MOST_BLOCKS};
+use crate::cell_array::CellArray;
 use words::Word;
-use words::codes::erased_code;
+
+// The most blocks that a stack has.
+const MOST_BLOCKS: usize = 4096;
 
 #[derive(Drop)]
 pub struct Stack<A, B> {
@@ -46,7 +48,6 @@ impl<A: CellArray, B: CellArray<Stored = A::Stored>> CellArray for Stack<A, B> {
     ghost rest = { λ x. both (A.CellArray.rest x.first) (B.CellArray.rest x.second) };
 
     fn blocks(&self) -> usize {
-        // with these calls come the laws of both arrays, from which those of the stack follow
         let _ = self.first.blocks();
         let _ = self.second.blocks();
         self.size()
@@ -58,7 +59,7 @@ impl<A: CellArray, B: CellArray<Stored = A::Stored>> CellArray for Stack<A, B> {
 
     fn code(&self, row: usize, column: usize) -> u16 {
         if row / 32 >= self.size() {
-            return erased_code::<A::Stored>();
+            return A::Stored::erased().to_code();
         }
         let split = self.first.blocks();
         if row / 32 < split {

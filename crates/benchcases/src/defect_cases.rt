@@ -2,13 +2,12 @@
 use crate::expected::{Expected, gives, play_case, refuses, taken};
 use crate::steps;
 use anyhow::anyhow;
-use arrays::DefectArray;
+use arrays::{DefectArray, FlatArray};
 use chip::Chip;
-use device::control::Opening;
-use device::part::Part;
-use flat::FlatArray;
 use records::call::Call;
 use refusals::Refusal;
+use rules::control::Opening;
+use rules::part::Part;
 use std::alloc::{AllocError, Global};
 
 fn settles(heap: Global) -> Result<Vec<Expected>, AllocError> {

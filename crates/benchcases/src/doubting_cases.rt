@@ -1,13 +1,12 @@
 // Cases on the doubting byte.
 use crate::expected::{Expected, gives, play_case, refuses, taken};
 use crate::steps;
-use arrays::CellArray;
+use arrays::{CellArray, FlatArray};
 use chip::Chip;
-use device::control::Opening;
-use device::part::Part;
-use flat::FlatArray;
 use records::call::Call;
 use refusals::Refusal;
+use rules::control::Opening;
+use rules::part::Part;
 use std::alloc::{AllocError, Global};
 use words::{DoubtingByte, Word};
 

@@ -1,12 +1,12 @@
 // Cases on K9K1208, whose blocks are locked at first.
 use crate::expected::{Expected, gives, play_case, refuses, taken};
 use crate::steps;
+use arrays::FlatArray;
 use chip::Chip;
-use device::control::Opening;
-use device::part::Part;
-use flat::FlatArray;
 use records::call::Call;
 use refusals::Refusal;
+use rules::control::Opening;
+use rules::part::Part;
 use std::alloc::{AllocError, Global};
 
 fn last_column(heap: Global) -> Result<Vec<Expected>, AllocError> {

@@ -7,10 +7,10 @@ ghost use Rattle.chip.specs.Cycles.{Arrived, Rowed};
 
 use crate::Chip;
 use arrays::CellArray;
-use device::control::OpenRange;
-use device::state::{Aim, Purpose, State, Work};
 use records::call::Call;
 use refusals::Refusal;
+use rules::control::OpenRange;
+use rules::state::{Aim, Purpose, State, Work};
 
 // What the row cycles after a column cycle are for.
 fn aim_of(column: u16, purpose: Purpose) -> Aim
@@ -103,8 +103,9 @@ impl<A: CellArray> Chip<A> {
         ensures opening { self.new.opening ≡ self.old.opening }
     {
         let part = self.opening.part;
+        let cycles = part.row_cycles();
         let row = part.next_row(row, taken, byte);
-        if part.is_last(taken) {
+        if taken as u16 + 1 >= cycles as u16 {
             return self.arrive(aim, row);
         }
         self.control.state = State::Row {

@@ -4,14 +4,13 @@ ghost use Rattle.rules.specs.Moving.{rows_for};
 ghost use Rattle.chip.specs.Calls.{seen, Called};
 ghost use Rattle.chip.specs.Cycles.{Cycled};
 
-use crate::Chip;
+use crate::{Chip, codes};
 use arrays::CellArray;
-use device::command::Command;
-use device::part::Pointer;
-use device::state::{Aim, Purpose, State, Work};
 use records::call::Call;
 use refusals::Refusal;
-use words::codes;
+use rules::command::Command;
+use rules::part::Pointer;
+use rules::state::{Aim, Purpose, State, Work};
 
 // Row cycles are next, and none was taken.
 fn rows_for(aim: Aim) -> State

@@ -2,15 +2,11 @@
 ghost use Rattle.std.specs.Prelude.{◌≡◌};
 ghost use Rattle.chip.specs.Calls.{seen, Called};
 
-use crate::Chip;
+use crate::{Chip, codes};
 use arrays::CellArray;
-use device::state::State;
 use records::call::Call;
 use refusals::Refusal;
-use words::codes;
-
-// The maker's code, which 90h gives first.
-const MAKER: u16 = 0xEC;
+use rules::state::State;
 
 impl<A: CellArray> Chip<A> {
     // A data cycle in: the word stands at the next column of the register.
@@ -68,7 +64,7 @@ impl<A: CellArray> Chip<A> {
             State::Id { next } => match *next {
                 0 => {
                     *next = 1;
-                    Ok(MAKER)
+                    Ok(0xEC)
                 }
                 1 => {
                     *next = 2;

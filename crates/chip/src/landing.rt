@@ -1,23 +1,22 @@
 // What is under way comes to its end: the array is asked for it.
 ghost use Rattle.std.specs.Prelude.{◌≡◌, Some};
 ghost use Rattle.arrays.specs.Meaning.{Performs};
-ghost use Rattle.rules.specs.Asking.{whole, torn, cycle_ending, operation_of};
-ghost use Rattle.device.specs.States.{under};
-ghost use Rattle.chip.specs.Calls.{seen, Called};
+ghost use Rattle.rules.specs.Asking.{whole, torn, cycle_ending};
+ghost use Rattle.rules.specs.Controls.{under};
+ghost use Rattle.chip.specs.Calls.{seen, Called, asks_of};
 ghost use Rattle.chip.specs.Cycles.{Ended};
 
-use crate::{Chip, page};
+use crate::{Chip, codes, page};
 use arrays::CellArray;
-use device::command::Command;
-use device::state::{State, Work};
 use records::call::Call;
 use refusals::Refusal;
-use words::codes;
+use rules::command::Command;
+use rules::state::{State, Work};
 
 impl<A: CellArray> Chip<A> {
     // Lands an operation whole; whether the array did it.
     fn land(&mut self, work: Work) -> bool
-        ensures done { Performs A.Stored.Word.kind (operation_of A.Stored.Word.kind self.old.opening.part self.old.control.register.codes whole (Some work)) (meaning self.old.array) result (meaning self.new.array) }
+        ensures done { Performs A.Stored.Word.kind (asks_of A.Stored.Word.kind self.old.opening.part self.old.control.register.codes whole (Some work)) (meaning self.old.array) result (meaning self.new.array) }
         ensures rest { rest self.new.array ≡ rest self.old.array }
         ensures control { self.new.control ≡ self.old.control }
         ensures opening { self.new.opening ≡ self.old.opening }
@@ -35,7 +34,7 @@ impl<A: CellArray> Chip<A> {
 
     // Lands an operation that is cut off.
     fn land_torn(&mut self, work: Work) -> bool
-        ensures done { Performs A.Stored.Word.kind (operation_of A.Stored.Word.kind self.old.opening.part self.old.control.register.codes torn (Some work)) (meaning self.old.array) result (meaning self.new.array) }
+        ensures done { Performs A.Stored.Word.kind (asks_of A.Stored.Word.kind self.old.opening.part self.old.control.register.codes torn (Some work)) (meaning self.old.array) result (meaning self.new.array) }
         ensures rest { rest self.new.array ≡ rest self.old.array }
         ensures control { self.new.control ≡ self.old.control }
         ensures opening { self.new.opening ≡ self.old.opening }
@@ -54,7 +53,7 @@ impl<A: CellArray> Chip<A> {
 
     // FFh cuts off what is under way, all else leaves the array alone; whether the array did what it was asked.
     pub(crate) fn cut_off(&mut self, command: Option<Command>) -> bool
-        ensures ended { Ended A.Stored.Word.kind (operation_of A.Stored.Word.kind self.old.opening.part self.old.control.register.codes (cycle_ending command) (under self.old.control.state)) (meaning self.old.array) result (meaning self.new.array) }
+        ensures ended { Ended A.Stored.Word.kind (asks_of A.Stored.Word.kind self.old.opening.part self.old.control.register.codes (cycle_ending command) (under self.old.control.state)) (meaning self.old.array) result (meaning self.new.array) }
         ensures rest { rest self.new.array ≡ rest self.old.array }
         ensures control { self.new.control ≡ self.old.control }
         ensures opening { self.new.opening ≡ self.old.opening }

@@ -2,17 +2,18 @@
 ghost use Rattle.std.specs.Prelude.{◌≡◌};
 ghost use Rattle.arrays.specs.Meaning.{Meaning};
 ghost use Rattle.rules.specs.Answering.{is_dead, unless, done};
-ghost use Rattle.device.specs.Controls.{fresh};
+ghost use Rattle.rules.specs.Controls.{fresh};
 ghost use Rattle.rules.specs.Running.{Step};
 ghost use Rattle.chip.specs.Calls.{seen, event, Called};
 
 use arrays::CellArray;
-use device::control::{Control, Opening};
 use records::call::Call;
 use refusals::Refusal;
-use words::{Word, codes};
+use rules::control::{Control, Opening};
+use words::Word;
 
 mod address;
+mod codes;
 mod command;
 mod data;
 mod landing;

@@ -1,14 +1,15 @@
 // Pages between the register and the array.
 ghost use Rattle.std.specs.Prelude.{◌≡◌, map, take};
 ghost use Rattle.words.specs.Kind.{Kind};
-ghost use Rattle.device.specs.Parts.{columns};
+ghost use Rattle.rules.specs.Parts.{columns};
 
-use device::part::Part;
-use device::register::PageRegister;
-use words::{Word, codes};
+use crate::codes;
+use rules::part::Part;
+use rules::register::PageRegister;
+use words::Word;
 
 // What an interrupted program of the register writes: the torn forms of its codes. The register stays as it is.
-pub(crate) fn torn_page<W: Word>(register: &PageRegister, part: Part) -> PageRegister
+pub fn torn_page<W: Word>(register: &PageRegister, part: Part) -> PageRegister
     ensures { take (columns part) result.codes ≡ map kind.torn (take (columns part) register.now.codes) }
 {
     let mut cut = PageRegister::erased(codes::erased_code::<W>());

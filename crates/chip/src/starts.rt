@@ -6,8 +6,8 @@ ghost use Rattle.rules.specs.Moving.{start_refused};
 
 use crate::Chip;
 use arrays::CellArray;
-use device::state::State;
 use refusals::Refusal;
+use rules::state::State;
 
 impl<A: CellArray> Chip<A> {
     // Whether the array has the row.

@@ -1,26 +1,21 @@
 // Runs a trace from the standard input on a new K9K1208 of two blocks, and prints the result bytes.
 ghost use Rattle.std.specs.Prelude.{◌≡◌, ℕ, ◌≤◌, length, take};
-ghost use Rattle.chiptrace.specs.Traced.{Traced, most_trace, opening};
+ghost use Rattle.chiptrace.specs.Traced.{Traced, opening};
 
-use device::control::Opening;
-use device::part::Part;
+use rules::control::Opening;
+use rules::part::Part;
 use runner::job::run_on_memory;
 use std::io;
 use std::io::{Read, Write};
 
+// the bytes of the input that are looked at
+const MOST_TRACE: u64 = 4096;
 // two blocks of 32 rows of 528 columns, and a count for each row
 const WORDS: usize = 33792;
 
 const COUNTS: usize = 64;
 
 const RESULTS: usize = 8192;
-
-// How many bytes of the input are looked at.
-fn most_trace() -> u64
-    ensures { result ≡ most_trace }
-{
-    4096
-}
 
 fn opening() -> Opening
     ensures { result ≡ opening }
@@ -47,7 +42,7 @@ fn run_trace(words: &mut [u8], counts: &mut [u8], trace: &[u8], results: &mut [u
 fn main(rt: HostRuntime) -> io::Result<()> {
     let heap = rt.alloc();
     let mut trace = Vec::new(heap);
-    rt.stdin().take(most_trace()).read_to_end(&mut trace)?;
+    rt.stdin().take(MOST_TRACE).read_to_end(&mut trace)?;
     let mut words = vec![in heap; 0u8; WORDS]?;
     let mut counts = vec![in heap; 0u8; COUNTS]?;
     let mut results = vec![in heap; 0u8; RESULTS]?;

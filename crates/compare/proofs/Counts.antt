@@ -3,7 +3,7 @@ use Rattle.std.proofs.Common.{◌≡◌, ℕ, ◌+◌, Bool, cond, eqb, List, []
 use Rattle.arrays.specs.Meaning.{Contents}
 use Rattle.rules.specs.Answering.{Answer}
 use Rattle.compare.specs.Differences.{count_apart, count_rows}
-use Rattle.compare.specs.Tallies.{count_taken, count_refused}
+use Rattle.compare.specs.Played.{count_taken, count_refused}
 
 pub apart_more : (f g : ℕ → ℕ) (n : ℕ) (same : Bool) → same ≡ eqb (f n) (g n) → count_apart f g (n + 1) ≡ count_apart f g n + cond same 0 1
 apart_more f g n same e = rw (add-one, e)

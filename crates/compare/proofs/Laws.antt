@@ -3,9 +3,9 @@ use Rattle.std.proofs.Common.{◌≡◌, ℕ, Bool, true, ◌↔◌, List, Decid
 use Rattle.records.specs.declared.call.Call.{Call}
 use Rattle.words.specs.Kind.{Kind, KindLaws}
 use Rattle.arrays.specs.Meaning.{Shape, Contents, Meaning, New}
-use Rattle.device.specs.declared.control.Opening.{Opening}
-use Rattle.device.specs.declared.control.Control.{Control}
-use Rattle.device.specs.Controls.{fresh}
+use Rattle.rules.specs.declared.control.Opening.{Opening}
+use Rattle.rules.specs.declared.control.Control.{Control}
+use Rattle.rules.specs.Controls.{fresh}
 use Rattle.rules.specs.Answering.{Answer}
 use Rattle.rules.specs.Running.{Chip, Event, Runs, after, calls, answers, failures, opened, Alike}
 use Rattle.rules.specs.Written.{Landing}
@@ -66,23 +66,23 @@ says {K} L {o} {o'} {c} {d} {c'} {d'} {es} {es'} r r' b part alike same =
     let one : P c.control = subst P (sym b.one.control) (λ q. two q r') in
     one r
 
-pub compared : {P P' : Meaning → Type 0} {K : Kind} → KindLaws K → {o o' : Opening} {c d c' d' : Chip} {cs cs' : List Call} {told told' : List Answer}
-    → Played P K o c cs told d → Played P' K o' c' cs' told' d' → (ae ce : Bool) → Decides ae (told ≡ told') → Decides ce (EqualCells d.memory.holds d'.memory.holds)
-    → Compared P P' K o o' c cs told d c' cs' told' d' ae ce
+pub compared : {K : Kind} → KindLaws K → {o o' : Opening} {c d c' d' : Chip} {cs cs' : List Call} {told told' : List Answer}
+    → Played K o c cs told d → Played K o' c' cs' told' d' → (ae ce : Bool) → Decides ae (told ≡ told') → Decides ce (EqualCells d.memory.holds d'.memory.holds)
+    → Compared K o o' c cs told d c' cs' told' d' ae ce
 compared L p p' ae ce v w = record {
   one = p;
   other = p';
   same_answers = v;
   same_cells = w;
-  law_of_cells = λ b. cells_law L p.run.run p'.run.run b ce w;
+  law_of_cells = λ b. cells_law L p.run p'.run b ce w;
   law_of_failures = λ b part alike given.
-      let s = says L p.run.run p'.run.run b part alike (p.its_calls ∙ (given ∙ sym p'.its_calls)) in
+      let s = says L p.run p'.run b part alike (p.its_calls ∙ (given ∙ sym p'.its_calls)) in
       let to : ae ≡ true → answers p.events ≡ answers p'.events = λ t. p.its_answers ∙ (v.0 t ∙ sym p'.its_answers) in
       let back : answers p.events ≡ answers p'.events → ae ≡ true = λ e. v.1 (sym p.its_answers ∙ (e ∙ p'.its_answers)) in
       record {
         at_end = (
-          λ x. s.0.0 (to x.0, equal_to p.run.run p'.run.run b.shapes (w.0 x.1)),
-          λ f. let y = s.0.1 f in (back y.0, w.1 (equal_from p.run.run p'.run.run b.shapes y.1)),
+          λ x. s.0.0 (to x.0, equal_to p.run p'.run b.shapes (w.0 x.1)),
+          λ f. let y = s.0.1 f in (back y.0, w.1 (equal_from p.run p'.run b.shapes y.1)),
         );
         throughout = (λ x. s.1.0 (to x.0, x.1), λ f. let y = s.1.1 f in (back y.0, y.1));
       };

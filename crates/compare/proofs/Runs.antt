@@ -3,21 +3,23 @@ use Rattle.std.proofs.Common.{◌≡◌, not, List, [], ◌∷◌, ◌++◌, map
 use Rattle.std.proofs.lemmas.List.{map-append}
 use Rattle.records.specs.declared.call.Call.{Call}
 use Rattle.words.specs.Kind.{Kind}
-use Rattle.arrays.specs.Meaning.{Meaning}
-use Rattle.device.specs.declared.control.Opening.{Opening}
+use Rattle.rules.specs.declared.control.Opening.{Opening}
 use Rattle.rules.specs.Answering.{Answer}
 use Rattle.rules.specs.Running.{Chip, Event, Step, Runs, stop, next, calls, answers}
 use Rattle.rules.proofs.Landed.{shape_kept}
-use Rattle.rules.proofs.Snocs.{in_more}
 use Rattle.compare.specs.Played.{Played}
 use Rattle.compare.specs.Compared.{shape_of}
 
+runs_more : {K : Kind} {o : Opening} {c c' c'' : Chip} {e : Event} {es : List Event} → Runs K o c es c' → Step K o c' e c'' → Runs K o c (es ++ e ∷ []) c''
+runs_more stop t = next t stop
+runs_more (next s r) t = next s (runs_more r t)
+
 -- one call more at the end
-pub played_more : (P : Meaning → Type 0) {K : Kind} {o : Opening} {c c' c'' : Chip} {given : List Call} {told : List Answer} → Played P K o c given told c'
-    → (e : Event) → Step K o c' e c'' → P c''.memory → Played P K o c (given ++ e.call ∷ []) (told ++ e.answer ∷ []) c''
-played_more P {given = given} {told = told} p e t made = record {
+pub played_more : {K : Kind} {o : Opening} {c c' c'' : Chip} {given : List Call} {told : List Answer} → Played K o c given told c'
+    → (e : Event) → Step K o c' e c'' → Played K o c (given ++ e.call ∷ []) (told ++ e.answer ∷ []) c''
+played_more {given = given} {told = told} p e t = record {
   events = p.events ++ e ∷ [];
-  run = in_more P p.run t made;
+  run = runs_more p.run t;
   its_calls = map-append (λ x. x.call) p.events (e ∷ []) ∙ ap (λ l. l ++ e.call ∷ []) p.its_calls;
   its_answers = map-append (λ x. x.answer) p.events (e ∷ []) ∙ ap (λ l. l ++ e.answer ∷ []) p.its_answers;
 }

@@ -3,10 +3,10 @@ use Rattle.std.specs.Prelude.{◌≡◌, ℕ, Bool, true, ◌↔◌, List}
 use Rattle.records.specs.declared.call.Call.{Call}
 use Rattle.records.specs.Readings.{Reading}
 use Rattle.words.specs.Kind.{Kind}
-use Rattle.arrays.specs.Meaning.{Shape, Contents, Meaning, New}
-use Rattle.device.specs.declared.control.Opening.{Opening}
+use Rattle.arrays.specs.Meaning.{Shape, Contents, New}
+use Rattle.rules.specs.declared.control.Opening.{Opening}
 use Rattle.rules.specs.Answering.{Answer}
-use Rattle.device.specs.Controls.{fresh}
+use Rattle.rules.specs.Controls.{fresh}
 use Rattle.rules.specs.Running.{Chip, Event, Runs, after, failures, Alike}
 use Rattle.rules.specs.Written.{Landing}
 use Rattle.rules.specs.Equality.{SameCells, SameLowest, LogOf, OneLog}
@@ -46,22 +46,22 @@ pub record FailuresLaw {K : Kind} {o o' : Opening} {c c' d d' : Chip} {es es' : 
   pub throughout : ((answers_equal ≡ true) × ((n : ℕ) → SameCells (shape_of c) (after r n).memory.holds (after r' n).memory.holds))
       ↔ (failures es ≡ failures es')
 
--- the chips before (c, c') and after (d, d'), the calls and the answers of each, and the two verdicts; P and P' hold of the arrays of each on the way
-pub record Compared (P P' : Meaning → Type 0) (K : Kind) (o o' : Opening) (c : Chip) (calls : List Call) (answers : List Answer) (d : Chip)
+-- the chips before (c, c') and after (d, d'), the calls and the answers of each, and the two verdicts
+pub record Compared (K : Kind) (o o' : Opening) (c : Chip) (calls : List Call) (answers : List Answer) (d : Chip)
     (c' : Chip) (calls' : List Call) (answers' : List Answer) (d' : Chip) (answers_equal cells_equal : Bool) : Type 0 where
-  pub one : Played P K o c calls answers d
-  pub other : Played P' K o' c' calls' answers' d'
+  pub one : Played K o c calls answers d
+  pub other : Played K o' c' calls' answers' d'
   pub same_answers : (answers_equal ≡ true) ↔ (answers ≡ answers')
   pub same_cells : (cells_equal ≡ true) ↔ EqualCells d.memory.holds d'.memory.holds
   pub law_of_cells : BothNew K c c' → CellsLaw K o o' (shape_of c) one.events other.events d d' cells_equal
   pub law_of_failures : BothNew K c c' → o.part ≡ o'.part → Alike o o' → calls ≡ calls'
-      → FailuresLaw one.run.run other.run.run answers_equal cells_equal
+      → FailuresLaw one.run other.run answers_equal cells_equal
 
 -- the same of the calls of two traces
-pub record TracesCompared (P P' : Meaning → Type 0) (K : Kind) (o o' : Opening) (c : Chip) (trace : List ℕ) (answers : List Answer) (d : Chip)
+pub record TracesCompared (K : Kind) (o o' : Opening) (c : Chip) (trace : List ℕ) (answers : List Answer) (d : Chip)
     (c' : Chip) (trace' : List ℕ) (answers' : List Answer) (d' : Chip) (answers_equal cells_equal : Bool) : Type 0 where
   pub calls : List Call
   pub other_calls : List Call
   pub read : Reading trace calls
   pub other_read : Reading trace' other_calls
-  pub compared : Compared P P' K o o' c calls answers d c' other_calls answers' d' answers_equal cells_equal
+  pub compared : Compared K o o' c calls answers d c' other_calls answers' d' answers_equal cells_equal

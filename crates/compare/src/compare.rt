@@ -1,6 +1,5 @@
 // Two lists of calls on two chips, compared by what the chips answer and by what they hold then.
 ghost use Rattle.std.specs.Prelude.{◌≡◌, ℕ, IfOk, IfErr, Decides, OnErr};
-ghost use Rattle.arrays.specs.Rest.{OfMake};
 ghost use Rattle.chip.specs.Calls.{seen};
 ghost use Rattle.compare.specs.Compared.{EqualCells, Compared};
 ghost use Rattle.compare.specs.Errors.{CallsRefused};
@@ -41,7 +40,7 @@ pub fn compare_calls<A: CellArray, B: CellArray<Stored = A::Stored>>(
     other: &mut Chip<B>,
     other_calls: &[Call],
 ) -> Result<Comparison, CompareError>
-    ensures compared { IfOk result (λ v. Compared (OfMake A.CellArray.meaning A.CellArray.rest (A.CellArray.rest one.old.array)) (OfMake B.CellArray.meaning B.CellArray.rest (B.CellArray.rest other.old.array)) A.Stored.Word.kind one.old.opening other.old.opening (seen A.CellArray.meaning one.old) calls.now v.answers.items (seen A.CellArray.meaning one.new) (seen B.CellArray.meaning other.old) other_calls.now v.other_answers.items (seen B.CellArray.meaning other.new) v.answers_equal v.cells_equal) }
+    ensures compared { IfOk result (λ v. Compared A.Stored.Word.kind one.old.opening other.old.opening (seen A.CellArray.meaning one.old) calls.now v.answers.items (seen A.CellArray.meaning one.new) (seen B.CellArray.meaning other.old) other_calls.now v.other_answers.items (seen B.CellArray.meaning other.new) v.answers_equal v.cells_equal) }
     ensures untouched { OnErr result ((one.new ≡ one.old) × (other.new ≡ other.old)) }
     ensures error { IfErr result (λ e. CallsRefused (A.CellArray.meaning one.old.array).holds.shape.blocks e) }
     ensures rest { A.CellArray.rest one.new.array ≡ A.CellArray.rest one.old.array }

@@ -1,6 +1,5 @@
 // Comparing two chips: what each was told, what it answered, and what its cells hold then.
 pub mod answers;
-pub mod builds;
 pub mod cells;
 pub mod compare;
 pub mod error;

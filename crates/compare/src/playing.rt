@@ -1,6 +1,5 @@
 // A list of calls, played on a chip.
 ghost use Rattle.std.specs.Prelude.{◌≡◌, ◌≤◌, [], length, IfSome, vec_capacity};
-ghost use Rattle.arrays.specs.Rest.{OfMake};
 ghost use Rattle.chip.specs.Calls.{seen};
 ghost use Rattle.compare.specs.Played.{Played};
 
@@ -25,7 +24,7 @@ pub(crate) fn play_all<A: CellArray>(
 ) -> Vec<Result<u16, Refusal>>
     requires empty { room.items ≡ [] }
     requires roomy { length calls.now ≤ vec_capacity room }
-    ensures played { Played (OfMake meaning rest (rest chip.old.array)) A.Stored.Word.kind chip.old.opening (seen meaning chip.old) calls.now result.items (seen meaning chip.new) }
+    ensures played { Played A.Stored.Word.kind chip.old.opening (seen meaning chip.old) calls.now result.items (seen meaning chip.new) }
     ensures rest { rest chip.new.array ≡ rest chip.old.array }
     ensures opening { chip.new.opening ≡ chip.old.opening }
 {

@@ -1,6 +1,5 @@
 // Two traces, each played on its chip, and the chips compared.
 ghost use Rattle.std.specs.Prelude.{◌≡◌, ℕ, IfOk, IfErr, OnErr};
-ghost use Rattle.arrays.specs.Rest.{OfMake};
 ghost use Rattle.chip.specs.Calls.{seen};
 ghost use Rattle.records.specs.Readings.{Reading};
 ghost use Rattle.compare.specs.Compared.{TracesCompared};
@@ -34,7 +33,7 @@ pub fn compare_traces<A: CellArray, B: CellArray<Stored = A::Stored>>(
     other: &mut Chip<B>,
     other_trace: &[u8],
 ) -> Result<Comparison, CompareError>
-    ensures compared { IfOk result (λ v. TracesCompared (OfMake A.CellArray.meaning A.CellArray.rest (A.CellArray.rest one.old.array)) (OfMake B.CellArray.meaning B.CellArray.rest (B.CellArray.rest other.old.array)) A.Stored.Word.kind one.old.opening other.old.opening (seen A.CellArray.meaning one.old) trace.now v.answers.items (seen A.CellArray.meaning one.new) (seen B.CellArray.meaning other.old) other_trace.now v.other_answers.items (seen B.CellArray.meaning other.new) v.answers_equal v.cells_equal) }
+    ensures compared { IfOk result (λ v. TracesCompared A.Stored.Word.kind one.old.opening other.old.opening (seen A.CellArray.meaning one.old) trace.now v.answers.items (seen A.CellArray.meaning one.new) (seen B.CellArray.meaning other.old) other_trace.now v.other_answers.items (seen B.CellArray.meaning other.new) v.answers_equal v.cells_equal) }
     ensures untouched { OnErr result ((one.new ≡ one.old) × (other.new ≡ other.old)) }
     ensures error { IfErr result (λ e. TracesRefused (A.CellArray.meaning one.old.array).holds.shape.blocks trace.now other_trace.now e) }
     ensures rest { A.CellArray.rest one.new.array ≡ A.CellArray.rest one.old.array }

@@ -3,7 +3,7 @@ mod compare;
 mod page;
 mod show;
 
-use flat::FlatArray;
+use arrays::FlatArray;
 use page::{COLUMNS, part, torn};
 use std::alloc::{AllocError, Global};
 use std::io;

@@ -7,24 +7,21 @@ use Rattle.refusals.specs.declared.Refusal.{Refusal}
 use Rattle.records.specs.declared.call.Call.{Call}
 use Rattle.words.specs.Kind.{Kind}
 use Rattle.arrays.specs.Meaning.{Contents}
-use Rattle.device.specs.declared.part.Part.{Part}
-use Rattle.device.specs.declared.command.Command.{Command}
-use Rattle.device.specs.declared.state.Aim.{Aim}
-use Rattle.device.specs.declared.state.State.{State}
-use Rattle.device.specs.declared.control.Opening.{Opening}
-use Rattle.device.specs.declared.control.Control.{Control}
-use Rattle.device.specs.Parts.{columns, is_last, next_row}
-use Rattle.device.specs.Commands.{decoded}
-use Rattle.device.specs.States.{in_load, is_busy}
-use Rattle.device.specs.Controls.{places, blank, page_of}
-use Rattle.rules.specs.Answering.{Answer, done, unless, is_dead, answer}
-use Rattle.rules.specs.Asking.{ending}
+use Rattle.rules.specs.declared.part.Part.{Part}
+use Rattle.rules.specs.declared.command.Command.{Command}
+use Rattle.rules.specs.declared.state.Aim.{Aim}
+use Rattle.rules.specs.declared.state.State.{State}
+use Rattle.rules.specs.declared.control.Opening.{Opening}
+use Rattle.rules.specs.declared.control.Control.{Control}
+use Rattle.rules.specs.Parts.{columns, is_last, next_row}
+use Rattle.rules.specs.Commands.{decoded}
+use Rattle.rules.specs.Controls.{places, blank, page_of}
+use Rattle.rules.specs.Answering.{Answer, done, unless, if_loading, is_dead, answer}
 use Rattle.rules.specs.Moving.{arrived, address_after, write_after, command_after, cycle_after, protect_after, control_after}
 use Rattle.rules.specs.Running.{Chip, Event, Runs}
 use Rattle.rules.specs.Conduct.{RegisterIsErasedBeyond}
-use Rattle.rules.proofs.Views.{load_both, page_both, erase_both, unlock_both, busy_both}
 use Rattle.rules.proofs.Registers.{refused_register}
-use Rattle.device.proofs.Pages.{each_erased, page_long, page_beyond}
+use Rattle.rules.proofs.Pages.{each_erased, page_long, page_beyond}
 
 -- a list of codes as a register of the part holds it
 pub record FitsRegister (K : Kind) (p : Part) (codes : List ℕ) : Type 0 where
@@ -48,40 +45,40 @@ module _ (K : Kind) (p : Part) where
   abbrev FitsControl : Control → Type 0
   FitsControl c = FitsRegister K p c.register.codes
 
-  room : (b : Bool) (next v : ℕ) → ltb next (columns p) ≡ b → unless (not b) Refusal.NoColumn done ≡ Ok v → next < columns p
-  room true next v z e = ltb-true next (columns p) z
-  room false next v z e = let n : ◌≡◌ {A = ℕ} 0 1 = cc in absurd (omega arith)
-
-  -- a write that was taken found a column
-  found : (s : State) (row next : ℕ) (written : Bool) (v : ℕ) → s ≡ State.Load row next written
-      → in_load s (λ row next written. unless (not (ltb next (columns p))) Refusal.NoColumn done) (Err Refusal.Unknown) ≡ Ok v → next < columns p
-  found s row next written v q e =
-      room (ltb next (columns p)) next v refl
-      (subst (λ (x : State). in_load x (λ row next written. unless (not (ltb next (columns p))) Refusal.NoColumn done) (Err Refusal.Unknown) ≡ Ok v) q e)
-
-  fits_write : (c : Control) (w v : ℕ)
-      → in_load c.state (λ row next written. unless (not (ltb next (columns p))) Refusal.NoColumn done) (Err Refusal.Unknown) ≡ Ok v
-      → FitsControl c → FitsControl (write_after c w)
-  fits_write c w v e t =
-      load_both FitsControl c.state _ c
-      (λ row next written q. fits_set c.register.codes next w (found c.state row next written v q e) t) t
+  fits_write : (c : Control) (w : ℕ) (s : State) (v : ℕ)
+      → if_loading s (λ row next written. unless (not (ltb next (columns p))) Refusal.NoColumn done) ≡ Ok v → FitsControl c → FitsControl (write_after c w s)
+  fits_write c w (State.Column purpose) v e t = t
+  fits_write c w (State.Row aim taken row) v e t = t
+  fits_write c w (State.PageOut row next) v e t = t
+  fits_write c w (State.Load row next written) v e t = fits_set c.register.codes next w (room (ltb next (columns p)) refl e) t
+    where
+      room : (b : Bool) → ltb next (columns p) ≡ b → unless (not b) Refusal.NoColumn done ≡ Ok v → next < columns p
+      room true z e = ltb-true next (columns p) z
+      room false z e = let n : ◌≡◌ {A = ℕ} 0 1 = cc in absurd (omega arith)
+  fits_write c w (State.EraseReady row) v e t = t
+  fits_write c w (State.UnlockReady first) v e t = t
+  fits_write c w State.Status v e t = t
+  fits_write c w State.IdAddress v e t = t
+  fits_write c w (State.Id next) v e t = t
+  fits_write c w (State.LockCode block) v e t = t
+  fits_write c w (State.Busy work) v e t = t
 
   fits_command : (c : Control) (x : Command) → FitsControl c → FitsControl (command_after K c x)
   fits_command c Command.ReadA t = t
   fits_command c Command.ReadB t = t
   fits_command c Command.ReadC t = t
   fits_command c Command.Load t = fits_blank
-  fits_command c Command.Program t = load_both FitsControl c.state _ c (λ row next written _. t) t
+  fits_command c Command.Program t = t
   fits_command c Command.EraseSetup t = t
-  fits_command c Command.EraseConfirm t = erase_both FitsControl c.state _ c (λ row _. t) t
-  fits_command c Command.CopyBack t = page_both FitsControl c.state _ c (λ row next _. t) t
-  fits_command c Command.Status t = busy_both FitsControl c.state _ _ (λ work _. t) t
+  fits_command c Command.EraseConfirm t = t
+  fits_command c Command.CopyBack t = t
+  fits_command c Command.Status t = t
   fits_command c Command.Id t = t
   fits_command c Command.Reset t = t
   fits_command c Command.Lock t = t
   fits_command c Command.LockTight t = t
   fits_command c Command.UnlockFirst t = t
-  fits_command c Command.UnlockLast t = unlock_both FitsControl c.state _ c (λ first _. t) t
+  fits_command c Command.UnlockLast t = t
   fits_command c Command.LockStatus t = t
 
   fits_cycle : (c : Control) (x : Option Command) → FitsControl c → FitsControl (cycle_after K c x)
@@ -116,11 +113,10 @@ module _ (K : Kind) (p : Part) where
   fits_address code c b (State.Busy work) t = t
 
 -- a write that was taken passed the tests of a load
-taken_write : (d l b : Bool) (rest a : Answer) (v : ℕ) → a ≡ unless d Refusal.Dead (unless l Refusal.Unlawful (unless b Refusal.Busy rest)) → a ≡ Ok v → rest ≡ Ok v
-taken_write true l b rest a v p q = cc
-taken_write false true b rest a v p q = cc
-taken_write false false true rest a v p q = cc
-taken_write false false false rest a v p q = cc
+taken_write : (d l : Bool) (rest a : Answer) (v : ℕ) → a ≡ unless d Refusal.Dead (unless l Refusal.Unlawful rest) → a ≡ Ok v → rest ≡ Ok v
+taken_write true l rest a v p q = cc
+taken_write false true rest a v p q = cc
+taken_write false false rest a v p q = cc
 
 pub fits_moves : (K : Kind) (o : Opening) (code : ℕ → ℕ → ℕ) (h : Contents) (f : Bool) (c : Control) (call : Call) (a : Answer)
     → a ≡ answer K o h f c call → FitsControl K o.part c → FitsControl K o.part (control_after K o.part code c call a)
@@ -128,12 +124,12 @@ unfolding answer control_after
 fits_moves K o code h f c (Call.Command x) (Ok v) e t = fits_cycle K o.part c (decoded o.part x) t
 fits_moves K o code h f c (Call.Address x) (Ok v) e t = fits_address K o.part code c x c.state t
 fits_moves K o code h f c (Call.Write w) (Ok v) e t =
-    fits_write K o.part c w v (taken_write (is_dead K o h.shape) (not (K.lawful w)) (is_busy c.state) _ (Ok v) v e refl) t
+    fits_write K o.part c w c.state v (taken_write (is_dead K o h.shape) (not (K.lawful w)) _ (Ok v) v e refl) t
 fits_moves K o code h f c Call.Read (Ok v) e t = t
 fits_moves K o code h f c (Call.Protect l) (Ok v) e t = fits_protect K o.part c l t
 fits_moves K o code h f c Call.Settle (Ok v) e t = t
 fits_moves K o code h f c (Call.Look row column) (Ok v) e t = t
-fits_moves K o code h f c call (Err why) e t = rw (refused_register (ending o.part call) c why) t
+fits_moves K o code h f c call (Err why) e t = rw (refused_register o.part c call why) t
 
 pub fits_run : (K : Kind) (o : Opening) {c c' : Chip} {es : List Event} → Runs K o c es c'
     → FitsControl K o.part c.control → FitsControl K o.part c'.control

@@ -5,15 +5,15 @@ use Rattle.refusals.specs.declared.Refusal.{Refusal}
 use Rattle.records.specs.declared.call.Call.{Call}
 use Rattle.words.specs.Kind.{Kind}
 use Rattle.arrays.specs.Meaning.{Shape, Contents, Meaning, New, Operation, nothing, accepts}
-use Rattle.device.specs.declared.part.Part.{Part}
-use Rattle.device.specs.declared.command.Command.{Command}
-use Rattle.device.specs.declared.state.Work.{Work}
-use Rattle.device.specs.declared.state.Aim.{Aim}
-use Rattle.device.specs.declared.state.State.{State}
-use Rattle.device.specs.declared.control.Opening.{Opening}
-use Rattle.device.specs.declared.control.Control.{Control}
-use Rattle.device.specs.Commands.{decoded}
-use Rattle.device.specs.States.{under}
+use Rattle.rules.specs.declared.part.Part.{Part}
+use Rattle.rules.specs.declared.command.Command.{Command}
+use Rattle.rules.specs.declared.state.Work.{Work}
+use Rattle.rules.specs.declared.state.Aim.{Aim}
+use Rattle.rules.specs.declared.state.State.{State}
+use Rattle.rules.specs.declared.control.Opening.{Opening}
+use Rattle.rules.specs.declared.control.Control.{Control}
+use Rattle.rules.specs.Commands.{decoded}
+use Rattle.rules.specs.Controls.{under}
 use Rattle.rules.specs.Answering.{Answer, unless, is_dead, answer_row, answer_address, answer_command, answer_cycle, answer_read, answer_alive, answer}
 use Rattle.rules.specs.Asking.{Ending, none, command_ending, cycle_ending, ending, operation_of, operation}
 use Rattle.rules.specs.Running.{Chip, Event, Step, Runs, stop, next, after, calls, answers, failures, opened, Alike}
@@ -43,7 +43,11 @@ says_failed (Err why) = is_failed why
 
 -- the array does not accept the end of the operation
 abbrev pub unwilling : Kind → Part → Meaning → Control → Ending → Bool
-unwilling K p m c e = not (accepts K m (operation_of K p c.register.codes e (under c.state)))
+unwilling K p m c e = not (accepts K m (operation_of K p c.register.codes (under c.state) e))
+
+no_ending : (K : Kind) (p : Part) (m : Meaning) (codes : List ℕ) (u : Option Work) → not (accepts K m (operation_of K p codes u none)) ≡ false
+no_ending K p m codes None = refl
+no_ending K p m codes (Some w) = refl
 
 command_says : (K : Kind) (o : Opening) (m : Meaning) (c : Control) (x : Command)
     → says_failed (answer_command o m.holds (unwilling K o.part m c (command_ending x)) c x) ≡ unwilling K o.part m c (command_ending x)
@@ -66,9 +70,9 @@ cycle_says K o m c (Some x) = command_says K o m c x
 alive_says : (K : Kind) (o : Opening) (m : Meaning) (c : Control) (call : Call)
     → says_failed (answer_alive K o m.holds (unwilling K o.part m c (ending o.part call)) c call) ≡ unwilling K o.part m c (ending o.part call)
 alive_says K o m c (Call.Command b) = cycle_says K o m c (decoded o.part b)
-alive_says K o m c (Call.Address b) = address_says o m.holds c b c.state
+alive_says K o m c (Call.Address b) = address_says o m.holds c b c.state ∙ sym (no_ending K o.part m c.register.codes (under c.state))
 alive_says K o m c (Call.Write w) = grind arith
-alive_says K o m c Call.Read = read_says K o c c.state
+alive_says K o m c Call.Read = read_says K o c c.state ∙ sym (no_ending K o.part m c.register.codes (under c.state))
 alive_says K o m c (Call.Protect l) = grind arith
 alive_says K o m c Call.Settle = grind arith
 alive_says K o m c (Call.Look row column) = grind arith
@@ -97,7 +101,7 @@ unfolding answer operation
 tells K o m c call = go (is_dead K o m.holds.shape)
   where
     x : Operation
-    x = operation_of K o.part c.register.codes (ending o.part call) (under c.state)
+    x = operation_of K o.part c.register.codes (under c.state) (ending o.part call)
 
     go : (d : Bool) → says_failed (unless d Refusal.Dead (answer_alive K o m.holds (not (accepts K m (cond d nothing x))) c call))
         ≡ not (accepts K m (cond d nothing x))

@@ -5,14 +5,14 @@ use Rattle.refusals.specs.declared.Refusal.{Refusal}
 use Rattle.records.specs.declared.call.Call.{Call}
 use Rattle.words.specs.Kind.{Kind, KindLaws}
 use Rattle.arrays.specs.Meaning.{Shape, Contents, Operation, nothing, programs, fills, performed, block_of}
-use Rattle.device.specs.declared.part.Part.{Part}
-use Rattle.device.specs.declared.command.Command.{Command}
-use Rattle.device.specs.declared.state.Work.{Work}
-use Rattle.device.specs.declared.control.Opening.{Opening}
-use Rattle.device.specs.declared.control.Control.{Control}
-use Rattle.device.specs.Parts.{columns}
-use Rattle.device.specs.Commands.{decoded}
-use Rattle.device.specs.States.{under}
+use Rattle.rules.specs.declared.part.Part.{Part}
+use Rattle.rules.specs.declared.command.Command.{Command}
+use Rattle.rules.specs.declared.state.Work.{Work}
+use Rattle.rules.specs.declared.control.Opening.{Opening}
+use Rattle.rules.specs.declared.control.Control.{Control}
+use Rattle.rules.specs.Parts.{columns}
+use Rattle.rules.specs.Commands.{decoded}
+use Rattle.rules.specs.Controls.{under}
 use Rattle.rules.specs.Answering.{Answer, done, unless, is_dead, answer_command, answer_cycle, answer_alive, answer}
 use Rattle.rules.specs.Asking.{Ending, none, whole, torn, command_ending, cycle_ending, ending, operation_of, operation}
 use Rattle.rules.specs.Running.{Chip, Event, Step}
@@ -115,23 +115,21 @@ fill_at : (K : Kind) (h : Contents) (at code row column : ℕ) → column < h.sh
 fill_at K h at code row column i =
     guard (eqb (block_of row) at) (ltb column h.shape.columns) code (h.code row column) (lt-ltb column h.shape.columns i)
 
-ended_by : (K : Kind) (p : Part) (r : List ℕ) (h : Contents) (n : Ending) (u : Option Work) (f : Bool) (a : Answer)
+ended_by : (K : Kind) (p : Part) (r : List ℕ) (h : Contents) (u : Option Work) (n : Ending) (f : Bool) (a : Answer)
     → (Ends u n → a ≡ unless f Refusal.ArrayFailed done) → (row column : ℕ) → column < h.shape.columns
-    → (cond (not f) (performed K (operation_of K p r n u) h) h).code row column ≡ codes_after K (if_taken a (landed_by K p r u n)) h.code row column
+    → (cond (not f) (performed K (operation_of K p r u n) h) h).code row column ≡ codes_after K (if_taken a (landed_by K p r u n)) h.code row column
 unfolding codes_after
-ended_by K p r h none None f a e row column i = ap (λ g. g row column) (none_landed K h (not f) a)
-ended_by K p r h none (Some w) f a e row column i = ap (λ g. g row column) (none_landed K h (not f) a)
-ended_by K p r h whole None f a e row column i = ap (λ g. g row column) (none_landed K h (not f) a)
-ended_by K p r h torn None f a e row column i = ap (λ g. g row column) (none_landed K h (not f) a)
-ended_by K p r h whole (Some (Work.Program at closes)) true a e row column i = rw (e tt)
-ended_by K p r h whole (Some (Work.Program at closes)) false a e row column i = rw (e tt) (program_at K h at (take (columns p) r) closes row column i)
-ended_by K p r h torn (Some (Work.Program at closes)) true a e row column i = rw (e tt)
-ended_by K p r h torn (Some (Work.Program at closes)) false a e row column i =
+ended_by K p r h None n f a e row column i = ap (λ g. g row column) (none_landed K h (not f) a)
+ended_by K p r h (Some w) none f a e row column i = ap (λ g. g row column) (none_landed K h (not f) a)
+ended_by K p r h (Some (Work.Program at closes)) whole true a e row column i = rw (e tt)
+ended_by K p r h (Some (Work.Program at closes)) whole false a e row column i = rw (e tt) (program_at K h at (take (columns p) r) closes row column i)
+ended_by K p r h (Some (Work.Program at closes)) torn true a e row column i = rw (e tt)
+ended_by K p r h (Some (Work.Program at closes)) torn false a e row column i =
     rw (e tt) (program_at K h at (map K.torn (take (columns p) r)) closes row column i)
-ended_by K p r h whole (Some (Work.Erase block)) true a e row column i = rw (e tt)
-ended_by K p r h whole (Some (Work.Erase block)) false a e row column i = rw (e tt) (fill_at K h block K.erased row column i)
-ended_by K p r h torn (Some (Work.Erase block)) true a e row column i = rw (e tt)
-ended_by K p r h torn (Some (Work.Erase block)) false a e row column i = rw (e tt) (fill_at K h block K.torn_erase row column i)
+ended_by K p r h (Some (Work.Erase block)) whole true a e row column i = rw (e tt)
+ended_by K p r h (Some (Work.Erase block)) whole false a e row column i = rw (e tt) (fill_at K h block K.erased row column i)
+ended_by K p r h (Some (Work.Erase block)) torn true a e row column i = rw (e tt)
+ended_by K p r h (Some (Work.Erase block)) torn false a e row column i = rw (e tt) (fill_at K h block K.torn_erase row column i)
 
 landings_are : (K : Kind) (p : Part) (c : Control) (call : Call) (a : Answer)
     → landings K p c call a ≡ if_taken a (landed_by K p c.register.codes (under c.state) (ending p call))
@@ -153,11 +151,11 @@ ended K o h c call f a e row column near = rw (landings_are K o.part c call a) (
     u = under c.state
 
     go : (d : Bool) → is_dead K o h.shape ≡ d → a ≡ unless d Refusal.Dead (answer_alive K o h f c call)
-        → (cond (not f) (performed K (cond d nothing (operation_of K o.part c.register.codes n u)) h) h).code row column
+        → (cond (not f) (performed K (cond d nothing (operation_of K o.part c.register.codes u n)) h) h).code row column
         ≡ codes_after K (if_taken a (landed_by K o.part c.register.codes u n)) h.code row column
     go true x e = rw e (ap (λ g. g row column) (none_landed K h (not f) (Err Refusal.Dead)))
     go false x e =
-        ended_by K o.part c.register.codes h n u f a (λ z. e ∙ ends_answer K o h f c call z) row column (within K o h.shape column x near)
+        ended_by K o.part c.register.codes h u n f a (λ z. e ∙ ends_answer K o h f c call z) row column (within K o h.shape column x near)
 
 pub step_codes : (K : Kind) (o : Opening) {c c' : Chip} {e : Event} → Step K o c e c' → (row column : ℕ) → Near o.part c.memory.holds.shape column
     → c'.memory.holds.code row column

@@ -1,5 +1,3 @@
-pub mod Views
-pub mod Snocs
 pub mod Lows
 pub mod Orders
 pub mod Failures
@@ -9,10 +7,9 @@ pub mod Pages
 pub mod Logs
 pub mod Exist
 pub mod Rests
-pub mod Endings
 pub mod Locks
 pub mod Beyond
-pub mod Played
 pub mod Benches
 pub mod Willing
 pub mod Tours
+pub mod Fetched

@@ -5,23 +5,21 @@ use Rattle.refusals.specs.declared.Refusal.{Refusal}
 use Rattle.records.specs.declared.call.Call.{Call}
 use Rattle.words.specs.Kind.{Kind}
 use Rattle.arrays.specs.Meaning.{Contents}
-use Rattle.device.specs.declared.part.Part.{Part}
-use Rattle.device.specs.declared.command.Command.{Command}
-use Rattle.device.specs.declared.state.Purpose.{Purpose}
-use Rattle.device.specs.declared.state.Aim.{Aim}
-use Rattle.device.specs.declared.state.State.{State}
-use Rattle.device.specs.declared.control.Opening.{Opening}
-use Rattle.device.specs.declared.control.Control.{Control}
-use Rattle.device.specs.Parts.{start_column, is_last, next_row}
-use Rattle.device.specs.Commands.{decoded}
-use Rattle.device.specs.States.{is_busy}
-use Rattle.device.specs.Controls.{with_state}
+use Rattle.rules.specs.declared.part.Part.{Part}
+use Rattle.rules.specs.declared.command.Command.{Command}
+use Rattle.rules.specs.declared.state.Purpose.{Purpose}
+use Rattle.rules.specs.declared.state.Aim.{Aim}
+use Rattle.rules.specs.declared.state.State.{State}
+use Rattle.rules.specs.declared.control.Opening.{Opening}
+use Rattle.rules.specs.declared.control.Control.{Control}
+use Rattle.rules.specs.Parts.{start_column, is_last, next_row}
+use Rattle.rules.specs.Commands.{decoded}
+use Rattle.rules.specs.Controls.{is_busy, with_state}
 use Rattle.rules.specs.Answering.{Answer, done, unless, is_dead, answer_command, answer_cycle, answer}
 use Rattle.rules.specs.Asking.{Ending, none, whole, torn, ending}
-use Rattle.rules.specs.Moving.{aim_of, arrived, address_after, write_after, read_after, command_after, cycle_after, protect_after, failed_after, refused_after, control_after}
+use Rattle.rules.specs.Moving.{aim_of, arrived, address_after, write_after, read_after, program_started, erase_started, copy_begun, last_begun, status_shown, command_after, cycle_after, protect_after, failed_after, refused_after, control_after}
 use Rattle.rules.specs.Running.{Chip, Event, Runs}
 use Rattle.rules.specs.Conduct.{TightIsClosed}
-use Rattle.rules.proofs.Views.{load_both, page_both, erase_both, unlock_both, busy_both}
 
 -- an unlock was begun
 abbrev for_unlock : Aim → Bool
@@ -59,6 +57,81 @@ at_rest c s e k = record { range = k.range; state = λ _. e }
 from_state : (c : Control) (s : State) → (unlocking c.state ≡ false → unlocking s ≡ false) → Closed c → Closed (with_state c s)
 from_state c s f k = record { range = k.range; state = λ t. f (k.state t) }
 
+program_keeps : (s : State) → unlocking s ≡ false → unlocking (program_started s) ≡ false
+program_keeps s = elim s as (λ s. unlocking s ≡ false → unlocking (program_started s) ≡ false) [
+  | State.Column purpose ↦ λ e. e
+  | State.Row aim taken row ↦ λ e. e
+  | State.PageOut row next ↦ λ e. e
+  | State.Load row next written ↦ λ e. refl
+  | State.EraseReady row ↦ λ e. e
+  | State.UnlockReady first ↦ λ e. e
+  | State.Status ↦ λ e. e
+  | State.IdAddress ↦ λ e. e
+  | State.Id next ↦ λ e. e
+  | State.LockCode block ↦ λ e. e
+  | State.Busy work ↦ λ e. e
+]
+
+erase_keeps : (s : State) → unlocking s ≡ false → unlocking (erase_started s) ≡ false
+erase_keeps s = elim s as (λ s. unlocking s ≡ false → unlocking (erase_started s) ≡ false) [
+  | State.Column purpose ↦ λ e. e
+  | State.Row aim taken row ↦ λ e. e
+  | State.PageOut row next ↦ λ e. e
+  | State.Load row next written ↦ λ e. e
+  | State.EraseReady row ↦ λ e. refl
+  | State.UnlockReady first ↦ λ e. e
+  | State.Status ↦ λ e. e
+  | State.IdAddress ↦ λ e. e
+  | State.Id next ↦ λ e. e
+  | State.LockCode block ↦ λ e. e
+  | State.Busy work ↦ λ e. e
+]
+
+copy_keeps : (s : State) → unlocking s ≡ false → unlocking (copy_begun s) ≡ false
+copy_keeps s = elim s as (λ s. unlocking s ≡ false → unlocking (copy_begun s) ≡ false) [
+  | State.Column purpose ↦ λ e. e
+  | State.Row aim taken row ↦ λ e. e
+  | State.PageOut row next ↦ λ e. refl
+  | State.Load row next written ↦ λ e. e
+  | State.EraseReady row ↦ λ e. e
+  | State.UnlockReady first ↦ λ e. e
+  | State.Status ↦ λ e. e
+  | State.IdAddress ↦ λ e. e
+  | State.Id next ↦ λ e. e
+  | State.LockCode block ↦ λ e. e
+  | State.Busy work ↦ λ e. e
+]
+
+last_keeps : (s : State) → unlocking s ≡ false → unlocking (last_begun s) ≡ false
+last_keeps s = elim s as (λ s. unlocking s ≡ false → unlocking (last_begun s) ≡ false) [
+  | State.Column purpose ↦ λ e. e
+  | State.Row aim taken row ↦ λ e. e
+  | State.PageOut row next ↦ λ e. e
+  | State.Load row next written ↦ λ e. e
+  | State.EraseReady row ↦ λ e. e
+  | State.UnlockReady first ↦ λ e. e
+  | State.Status ↦ λ e. e
+  | State.IdAddress ↦ λ e. e
+  | State.Id next ↦ λ e. e
+  | State.LockCode block ↦ λ e. e
+  | State.Busy work ↦ λ e. e
+]
+
+status_keeps : (s : State) → unlocking (status_shown s) ≡ false
+status_keeps s = elim s as (λ s. unlocking (status_shown s) ≡ false) [
+  | State.Column purpose ↦ refl
+  | State.Row aim taken row ↦ refl
+  | State.PageOut row next ↦ refl
+  | State.Load row next written ↦ refl
+  | State.EraseReady row ↦ refl
+  | State.UnlockReady first ↦ refl
+  | State.Status ↦ refl
+  | State.IdAddress ↦ refl
+  | State.Id next ↦ refl
+  | State.LockCode block ↦ refl
+  | State.Busy work ↦ refl
+]
+
 read_keeps : (s : State) → unlocking s ≡ false → unlocking (read_after s) ≡ false
 read_keeps s = elim s as (λ s. unlocking s ≡ false → unlocking (read_after s) ≡ false) [
   | State.Column purpose ↦ λ e. e
@@ -86,11 +159,11 @@ module _ (K : Kind) (o : Opening) where
   closed_command h f c Command.ReadB v a k = record { range = k.range; state = λ _. refl }
   closed_command h f c Command.ReadC v a k = record { range = k.range; state = λ _. refl }
   closed_command h f c Command.Load v a k = record { range = k.range; state = λ _. refl }
-  closed_command h f c Command.Program v a k = load_both Closed c.state _ c (λ row next written _. at_rest c _ refl k) k
+  closed_command h f c Command.Program v a k = from_state c (program_started c.state) (program_keeps c.state) k
   closed_command h f c Command.EraseSetup v a k = at_rest c _ refl k
-  closed_command h f c Command.EraseConfirm v a k = erase_both Closed c.state _ c (λ row _. at_rest c _ refl k) k
-  closed_command h f c Command.CopyBack v a k = page_both Closed c.state _ c (λ row next _. at_rest c _ refl k) k
-  closed_command h f c Command.Status v a k = busy_both Closed c.state _ _ (λ work _. k) (at_rest c State.Status refl k)
+  closed_command h f c Command.EraseConfirm v a k = from_state c (erase_started c.state) (erase_keeps c.state) k
+  closed_command h f c Command.CopyBack v a k = from_state c (copy_begun c.state) (copy_keeps c.state) k
+  closed_command h f c Command.Status v a k = from_state c (status_shown c.state) (λ _. status_keeps c.state) k
   closed_command h f c Command.Id v a k = at_rest c State.IdAddress refl k
   closed_command h f c Command.Reset v a k = record { range = k.range; state = λ _. refl }
   closed_command h f c Command.Lock v a k = record { range = λ _. refl; state = λ _. refl }
@@ -98,8 +171,7 @@ module _ (K : Kind) (o : Opening) where
   closed_command h f c Command.UnlockFirst v a k =
       let n : c.tight ≡ false = not_tight (is_busy c.state) c.tight v a in
       record { range = k.range; state = λ t. cc }
-  closed_command h f c Command.UnlockLast v a k =
-      unlock_both Closed c.state _ c (λ first e. from_state c _ (λ z. sym (ap unlocking e) ∙ z) k) k
+  closed_command h f c Command.UnlockLast v a k = from_state c (last_begun c.state) (last_keeps c.state) k
   closed_command h f c Command.LockStatus v a k = at_rest c _ refl k
 
   closed_cycle : (h : Contents) (f : Bool) (c : Control) (x : Option Command) (v : ℕ) → answer_cycle o h f c x ≡ Ok v → Closed c → Closed (cycle_after K c x)
@@ -137,8 +209,18 @@ module _ (K : Kind) (o : Opening) where
   closed_address p code c b (State.LockCode block) e k = k
   closed_address p code c b (State.Busy work) e k = k
 
-  closed_write : (c : Control) (w : ℕ) → Closed c → Closed (write_after c w)
-  closed_write c w k = load_both Closed c.state _ c (λ row next written _. record { range = k.range; state = λ _. refl }) k
+  closed_write : (c : Control) (w : ℕ) (s : State) → Closed c → Closed (write_after c w s)
+  closed_write c w (State.Column purpose) k = k
+  closed_write c w (State.Row aim taken row) k = k
+  closed_write c w (State.PageOut row next) k = k
+  closed_write c w (State.Load row next written) k = record { range = k.range; state = λ _. refl }
+  closed_write c w (State.EraseReady row) k = k
+  closed_write c w (State.UnlockReady first) k = k
+  closed_write c w State.Status k = k
+  closed_write c w State.IdAddress k = k
+  closed_write c w (State.Id next) k = k
+  closed_write c w (State.LockCode block) k = k
+  closed_write c w (State.Busy work) k = k
 
   closed_protect : (c : Control) (l : ℕ) → Closed c → Closed (protect_after c l)
   closed_protect c zero k = record { range = λ _. refl; state = λ t. cc }
@@ -149,22 +231,22 @@ module _ (K : Kind) (o : Opening) where
   closed_failed c whole k = record { range = k.range; state = λ _. refl }
   closed_failed c torn k = record { range = k.range; state = λ _. refl }
 
-  closed_refused : (n : Ending) (c : Control) (why : Refusal) → Closed c → Closed (refused_after n c why)
-  closed_refused n c Refusal.Dead k = k
-  closed_refused n c Refusal.Unlawful k = k
-  closed_refused n c Refusal.Busy k = k
-  closed_refused n c Refusal.Unknown k = k
-  closed_refused n c Refusal.NotBusy k = k
-  closed_refused n c Refusal.Outside k = k
-  closed_refused n c Refusal.NoColumn k = k
-  closed_refused n c Refusal.NoWord k = k
-  closed_refused n c Refusal.Locked k = k
-  closed_refused n c Refusal.Protected k = record { range = k.range; state = λ _. refl }
-  closed_refused n c Refusal.PageFull k = record { range = k.range; state = λ _. refl }
-  closed_refused n c Refusal.OtherPlane k = record { range = k.range; state = λ _. refl }
-  closed_refused n c Refusal.ArrayFailed k = closed_failed c n k
-  closed_refused n c Refusal.BadRecord k = k
-  closed_refused n c Refusal.ListFull k = k
+  closed_refused : (p : Part) (c : Control) (call : Call) (why : Refusal) → Closed c → Closed (refused_after p c call why)
+  closed_refused p c call Refusal.Dead k = k
+  closed_refused p c call Refusal.Unlawful k = k
+  closed_refused p c call Refusal.Busy k = k
+  closed_refused p c call Refusal.Unknown k = k
+  closed_refused p c call Refusal.NotBusy k = k
+  closed_refused p c call Refusal.Outside k = k
+  closed_refused p c call Refusal.NoColumn k = k
+  closed_refused p c call Refusal.NoWord k = k
+  closed_refused p c call Refusal.Locked k = k
+  closed_refused p c call Refusal.Protected k = record { range = k.range; state = λ _. refl }
+  closed_refused p c call Refusal.PageFull k = record { range = k.range; state = λ _. refl }
+  closed_refused p c call Refusal.OtherPlane k = record { range = k.range; state = λ _. refl }
+  closed_refused p c call Refusal.ArrayFailed k = closed_failed c (ending p call) k
+  closed_refused p c call Refusal.BadRecord k = k
+  closed_refused p c call Refusal.ListFull k = k
 
   -- a call that was taken was answered by a live chip
   alive : (d : Bool) (a rest : Answer) (v : ℕ) → a ≡ unless d Refusal.Dead rest → a ≡ Ok v → rest ≡ Ok v
@@ -177,12 +259,12 @@ module _ (K : Kind) (o : Opening) where
   closed_moves code h f c (Call.Command x) (Ok v) e k =
       closed_cycle h f c (decoded o.part x) v (alive (is_dead K o h.shape) (Ok v) _ v e refl) k
   closed_moves code h f c (Call.Address x) (Ok v) e k = closed_address o.part code c x c.state refl k
-  closed_moves code h f c (Call.Write w) (Ok v) e k = closed_write c w k
+  closed_moves code h f c (Call.Write w) (Ok v) e k = closed_write c w c.state k
   closed_moves code h f c Call.Read (Ok v) e k = from_state c (read_after c.state) (read_keeps c.state) k
   closed_moves code h f c (Call.Protect l) (Ok v) e k = closed_protect c l k
   closed_moves code h f c Call.Settle (Ok v) e k = record { range = k.range; state = λ _. refl }
   closed_moves code h f c (Call.Look row column) (Ok v) e k = k
-  closed_moves code h f c call (Err why) e k = closed_refused (ending o.part call) c why k
+  closed_moves code h f c call (Err why) e k = closed_refused o.part c call why k
 
   closed_run : {c c' : Chip} {es : List Event} → Runs K o c es c' → Closed c.control → Closed c'.control
   closed_run Runs.stop k = k

@@ -4,8 +4,8 @@ use mathlib.Core.Path.{fun_ext}
 use Rattle.records.specs.declared.call.Call.{Call}
 use Rattle.words.specs.Kind.{Kind, KindLaws}
 use Rattle.arrays.specs.Meaning.{Shape, Meaning, New}
-use Rattle.device.specs.declared.part.Part.{Part}
-use Rattle.device.specs.declared.control.Opening.{Opening}
+use Rattle.rules.specs.declared.part.Part.{Part}
+use Rattle.rules.specs.declared.control.Opening.{Opening}
 use Rattle.rules.specs.Moving.{control_after}
 use Rattle.rules.specs.Running.{Chip, Event, Step, Runs, stop, next, opened}
 use Rattle.rules.specs.Written.{Landing, Lowest, HasLowest, landings, Said, said, Wrote}

@@ -6,19 +6,18 @@ use Rattle.refusals.specs.declared.Refusal.{Refusal}
 use Rattle.records.specs.declared.call.Call.{Call}
 use Rattle.words.specs.Kind.{Kind, KindLaws}
 use Rattle.arrays.specs.Meaning.{Contents}
-use Rattle.device.specs.declared.part.Part.{Part}
-use Rattle.device.specs.declared.command.Command.{Command}
-use Rattle.device.specs.declared.state.Aim.{Aim}
-use Rattle.device.specs.declared.state.State.{State}
-use Rattle.device.specs.declared.control.Opening.{Opening}
-use Rattle.device.specs.declared.control.Control.{Control}
-use Rattle.device.specs.Parts.{columns, is_last, next_row}
-use Rattle.device.specs.Commands.{decoded}
-use Rattle.device.specs.Controls.{places, blank, page_of}
+use Rattle.rules.specs.declared.part.Part.{Part}
+use Rattle.rules.specs.declared.command.Command.{Command}
+use Rattle.rules.specs.declared.state.Aim.{Aim}
+use Rattle.rules.specs.declared.state.State.{State}
+use Rattle.rules.specs.declared.control.Opening.{Opening}
+use Rattle.rules.specs.declared.control.Control.{Control}
+use Rattle.rules.specs.Parts.{columns, is_last, next_row}
+use Rattle.rules.specs.Commands.{decoded}
+use Rattle.rules.specs.Controls.{places, blank, page_of}
 use Rattle.rules.specs.Answering.{Answer, unless, is_dead, answer}
 use Rattle.rules.specs.Asking.{Ending, none, whole, torn, ending}
 use Rattle.rules.specs.Moving.{arrived, address_after, write_after, command_after, cycle_after, protect_after, failed_after, refused_after, control_after}
-use Rattle.rules.proofs.Views.{load_both, page_both, erase_both, unlock_both, busy_both}
 use Rattle.rules.proofs.Lows.{IsLawful}
 
 -- every place of a list of codes is lawful, and so is what is read past its end
@@ -31,22 +30,22 @@ failed_register c none = refl
 failed_register c whole = refl
 failed_register c torn = refl
 
-pub refused_register : (n : Ending) (c : Control) (why : Refusal) → (refused_after n c why).register ≡ c.register
-refused_register n c Refusal.Dead = refl
-refused_register n c Refusal.Unlawful = refl
-refused_register n c Refusal.Busy = refl
-refused_register n c Refusal.Unknown = refl
-refused_register n c Refusal.NotBusy = refl
-refused_register n c Refusal.Outside = refl
-refused_register n c Refusal.NoColumn = refl
-refused_register n c Refusal.NoWord = refl
-refused_register n c Refusal.Locked = refl
-refused_register n c Refusal.Protected = refl
-refused_register n c Refusal.PageFull = refl
-refused_register n c Refusal.OtherPlane = refl
-refused_register n c Refusal.ArrayFailed = failed_register c n
-refused_register n c Refusal.BadRecord = refl
-refused_register n c Refusal.ListFull = refl
+pub refused_register : (p : Part) (c : Control) (call : Call) (why : Refusal) → (refused_after p c call why).register ≡ c.register
+refused_register p c call Refusal.Dead = refl
+refused_register p c call Refusal.Unlawful = refl
+refused_register p c call Refusal.Busy = refl
+refused_register p c call Refusal.Unknown = refl
+refused_register p c call Refusal.NotBusy = refl
+refused_register p c call Refusal.Outside = refl
+refused_register p c call Refusal.NoColumn = refl
+refused_register p c call Refusal.NoWord = refl
+refused_register p c call Refusal.Locked = refl
+refused_register p c call Refusal.Protected = refl
+refused_register p c call Refusal.PageFull = refl
+refused_register p c call Refusal.OtherPlane = refl
+refused_register p c call Refusal.ArrayFailed = failed_register c (ending p call)
+refused_register p c call Refusal.BadRecord = refl
+refused_register p c call Refusal.ListFull = refl
 
 -- a word that was taken is lawful
 taken_lawful : (d l : Bool) (rest : Answer) (v : ℕ) → unless d Refusal.Dead (unless (not l) Refusal.Unlawful rest) ≡ Ok v → l ≡ true
@@ -100,29 +99,35 @@ module _ (K : Kind) (L : KindLaws K) where
   lawful_page_of p f h =
       lawful_each f (range_with_len 0 (columns p)) (replicate (places - columns p) K.erased) h (lawful_replicate (places - columns p))
 
-  -- the register of a control is lawful
-  abbrev LawfulControl : Control → Type 0
-  LawfulControl c = LawfulPage K c.register.codes
-
-  lawful_write : (c : Control) (w : ℕ) → IsLawful K w → LawfulControl c → LawfulControl (write_after c w)
-  lawful_write c w h t = load_both LawfulControl c.state _ c (λ row next written _. lawful_set c.register.codes next w h t) t
+  lawful_write : (c : Control) (w : ℕ) (s : State) → IsLawful K w → LawfulPage K c.register.codes → LawfulPage K (write_after c w s).register.codes
+  lawful_write c w (State.Column purpose) h t = t
+  lawful_write c w (State.Row aim taken row) h t = t
+  lawful_write c w (State.PageOut row next) h t = t
+  lawful_write c w (State.Load row next written) h t = lawful_set c.register.codes next w h t
+  lawful_write c w (State.EraseReady row) h t = t
+  lawful_write c w (State.UnlockReady first) h t = t
+  lawful_write c w State.Status h t = t
+  lawful_write c w State.IdAddress h t = t
+  lawful_write c w (State.Id next) h t = t
+  lawful_write c w (State.LockCode block) h t = t
+  lawful_write c w (State.Busy work) h t = t
 
   lawful_command : (c : Control) (x : Command) → LawfulPage K c.register.codes → LawfulPage K (command_after K c x).register.codes
   lawful_command c Command.ReadA t = t
   lawful_command c Command.ReadB t = t
   lawful_command c Command.ReadC t = t
   lawful_command c Command.Load t = lawful_blank
-  lawful_command c Command.Program t = load_both LawfulControl c.state _ c (λ row next written _. t) t
+  lawful_command c Command.Program t = t
   lawful_command c Command.EraseSetup t = t
-  lawful_command c Command.EraseConfirm t = erase_both LawfulControl c.state _ c (λ row _. t) t
-  lawful_command c Command.CopyBack t = page_both LawfulControl c.state _ c (λ row next _. t) t
-  lawful_command c Command.Status t = busy_both LawfulControl c.state _ _ (λ work _. t) t
+  lawful_command c Command.EraseConfirm t = t
+  lawful_command c Command.CopyBack t = t
+  lawful_command c Command.Status t = t
   lawful_command c Command.Id t = t
   lawful_command c Command.Reset t = t
   lawful_command c Command.Lock t = t
   lawful_command c Command.LockTight t = t
   lawful_command c Command.UnlockFirst t = t
-  lawful_command c Command.UnlockLast t = unlock_both LawfulControl c.state _ c (λ first _. t) t
+  lawful_command c Command.UnlockLast t = t
   lawful_command c Command.LockStatus t = t
 
   lawful_cycle : (c : Control) (x : Option Command) → LawfulPage K c.register.codes → LawfulPage K (cycle_after K c x).register.codes
@@ -165,9 +170,9 @@ module _ (K : Kind) (L : KindLaws K) where
   unfolding control_after
   register_lawful code o h f c (Call.Command x) (Ok v) e codes r = lawful_cycle c (decoded o.part x) r
   register_lawful code o h f c (Call.Address x) (Ok v) e codes r = lawful_address code codes o.part c x c.state r
-  register_lawful code o h f c (Call.Write w) (Ok v) e codes r = lawful_write c w (write_lawful K o h f c w v (sym e)) r
+  register_lawful code o h f c (Call.Write w) (Ok v) e codes r = lawful_write c w c.state (write_lawful K o h f c w v (sym e)) r
   register_lawful code o h f c Call.Read (Ok v) e codes r = r
   register_lawful code o h f c (Call.Protect l) (Ok v) e codes r = lawful_protect c l r
   register_lawful code o h f c Call.Settle (Ok v) e codes r = r
   register_lawful code o h f c (Call.Look row column) (Ok v) e codes r = r
-  register_lawful code o h f c call (Err why) e codes r = rw (refused_register (ending o.part call) c why) r
+  register_lawful code o h f c call (Err why) e codes r = rw (refused_register o.part c call why) r

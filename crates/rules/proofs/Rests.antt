@@ -6,13 +6,13 @@ use Rattle.refusals.specs.Numbers.{number}
 use Rattle.records.specs.declared.call.Call.{Call}
 use Rattle.words.specs.Kind.{Kind}
 use Rattle.arrays.specs.Meaning.{Contents, Operation, nothing, rows}
-use Rattle.device.specs.declared.part.Part.{Part}
-use Rattle.device.specs.declared.command.Command.{Command}
-use Rattle.device.specs.declared.state.Work.{Work}
-use Rattle.device.specs.declared.control.Opening.{Opening}
-use Rattle.device.specs.declared.control.Control.{Control}
-use Rattle.device.specs.Commands.{knows, if_known, decoded}
-use Rattle.device.specs.States.{under}
+use Rattle.rules.specs.declared.part.Part.{Part}
+use Rattle.rules.specs.declared.command.Command.{Command}
+use Rattle.rules.specs.declared.state.Work.{Work}
+use Rattle.rules.specs.declared.control.Opening.{Opening}
+use Rattle.rules.specs.declared.control.Control.{Control}
+use Rattle.rules.specs.Commands.{knows, if_known, decoded}
+use Rattle.rules.specs.Controls.{under}
 use Rattle.rules.specs.Answering.{Answer, done, unless, is_dead, answer_alive, answer}
 use Rattle.rules.specs.Asking.{Ending, none, whole, torn, command_ending, cycle_ending, ending, operation_of, operation}
 use Rattle.rules.specs.Moving.{refused_after, control_after}
@@ -21,12 +21,11 @@ use Rattle.rules.specs.Conduct.{LowRefusalsChangeNothing, NotStarted, RefusedSta
 use Rattle.rules.proofs.Failures.{says_failed, told}
 use Rattle.rules.proofs.Landed.{Ends, ends_answer}
 
-ends_or_not : (K : Kind) (p : Part) (r : List ℕ) (n : Ending) (u : Option Work) → Ends u n ⊎ (operation_of K p r n u ≡ nothing)
-ends_or_not K p r none u = inr refl
-ends_or_not K p r whole None = inr refl
-ends_or_not K p r whole (Some w) = inl tt
-ends_or_not K p r torn None = inr refl
-ends_or_not K p r torn (Some w) = inl tt
+ends_or_not : (K : Kind) (p : Part) (r : List ℕ) (u : Option Work) (n : Ending) → Ends u n ⊎ (operation_of K p r u n ≡ nothing)
+ends_or_not K p r None n = inr refl
+ends_or_not K p r (Some w) none = inr refl
+ends_or_not K p r (Some w) whole = inl tt
+ends_or_not K p r (Some w) torn = inl tt
 
 -- a call to a live chip that ends what is under way
 record EndingCall (K : Kind) (o : Opening) (c : Chip) (e : Event) : Type 0 where
@@ -39,13 +38,13 @@ unfolding answer operation
 ends_or_rests K o c c' e t = go (is_dead K o c.memory.holds.shape) refl t.idle t.answers
   where
     x : Operation
-    x = operation_of K o.part c.control.register.codes (ending o.part e.call) (under c.control.state)
+    x = operation_of K o.part c.control.register.codes (under c.control.state) (ending o.part e.call)
 
     go : (d : Bool) → is_dead K o c.memory.holds.shape ≡ d → (cond d nothing x ≡ nothing → c'.memory ≡ c.memory)
         → e.answer ≡ unless d Refusal.Dead (answer_alive K o c.memory.holds e.failed c.control e.call)
         → EndingCall K o c e ⊎ (c'.memory ≡ c.memory)
     go true z idle a = inr (idle refl)
-    go false z idle a = elim (ends_or_not K o.part c.control.register.codes (ending o.part e.call) (under c.control.state)) [
+    go false z idle a = elim (ends_or_not K o.part c.control.register.codes (under c.control.state) (ending o.part e.call)) [
       | inl ends ↦ inl record { ends = ends; answers = a ∙ ends_answer K o c.memory.holds e.failed c.control e.call ends }
       | inr n ↦ inr (idle n)
     ]
@@ -63,59 +62,59 @@ rests_at K o c c' e why t a n = elim (ends_or_rests K o c c' e t) [
 ]
 
 moved_by : (K : Kind) (o : Opening) (c c' : Chip) (e : Event) (why : Refusal) → Step K o c e c' → e.answer ≡ Err why
-    → c'.control ≡ refused_after (ending o.part e.call) c.control why
+    → c'.control ≡ refused_after o.part c.control e.call why
 unfolding control_after
 moved_by K o c c' e why t a =
     subst (λ x. c'.control ≡ control_after K o.part c.memory.holds.code c.control e.call x) a t.moves
 
-low_kept : (n : Ending) (c : Control) (why : Refusal) → number why ≤ 9 → refused_after n c why ≡ c
-low_kept n c Refusal.Dead few = refl
-low_kept n c Refusal.Unlawful few = refl
-low_kept n c Refusal.Busy few = refl
-low_kept n c Refusal.Unknown few = refl
-low_kept n c Refusal.NotBusy few = refl
-low_kept n c Refusal.Outside few = refl
-low_kept n c Refusal.NoColumn few = refl
-low_kept n c Refusal.NoWord few = refl
-low_kept n c Refusal.Locked few = refl
-low_kept n c Refusal.Protected few = absurd (omega arith)
-low_kept n c Refusal.PageFull few = absurd (omega arith)
-low_kept n c Refusal.OtherPlane few = absurd (omega arith)
-low_kept n c Refusal.ArrayFailed few = absurd (omega arith)
-low_kept n c Refusal.BadRecord few = refl
-low_kept n c Refusal.ListFull few = refl
+low_kept : (p : Part) (c : Control) (call : Call) (why : Refusal) → number why ≤ 9 → refused_after p c call why ≡ c
+low_kept p c call Refusal.Dead n = refl
+low_kept p c call Refusal.Unlawful n = refl
+low_kept p c call Refusal.Busy n = refl
+low_kept p c call Refusal.Unknown n = refl
+low_kept p c call Refusal.NotBusy n = refl
+low_kept p c call Refusal.Outside n = refl
+low_kept p c call Refusal.NoColumn n = refl
+low_kept p c call Refusal.NoWord n = refl
+low_kept p c call Refusal.Locked n = refl
+low_kept p c call Refusal.Protected n = absurd (omega arith)
+low_kept p c call Refusal.PageFull n = absurd (omega arith)
+low_kept p c call Refusal.OtherPlane n = absurd (omega arith)
+low_kept p c call Refusal.ArrayFailed n = absurd (omega arith)
+low_kept p c call Refusal.BadRecord n = refl
+low_kept p c call Refusal.ListFull n = refl
 
 same_chip : (c c' : Chip) → c'.control ≡ c.control → c'.memory ≡ c.memory → c' ≡ c
 same_chip c c' p q = λ i. record { control = p i; memory = q i }
 
 pub low_refusals_change_nothing : LowRefusalsChangeNothing
 low_refusals_change_nothing K o c c' e why t a n =
-    same_chip c c' (moved_by K o c c' e why t a ∙ low_kept (ending o.part e.call) c.control why n) (rests_at K o c c' e why t a (omega arith))
+    same_chip c c' (moved_by K o c c' e why t a ∙ low_kept o.part c.control e.call why n) (rests_at K o c c' e why t a (omega arith))
 
-started_not : (n : Ending) (c c' : Chip) (why : Refusal) → 10 ≤ number why → number why ≤ 12
-    → c'.control ≡ refused_after n c.control why → c'.memory ≡ c.memory → NotStarted c c'
-started_not n c c' Refusal.Dead low high m q = absurd (omega arith)
-started_not n c c' Refusal.Unlawful low high m q = absurd (omega arith)
-started_not n c c' Refusal.Busy low high m q = absurd (omega arith)
-started_not n c c' Refusal.Unknown low high m q = absurd (omega arith)
-started_not n c c' Refusal.NotBusy low high m q = absurd (omega arith)
-started_not n c c' Refusal.Outside low high m q = absurd (omega arith)
-started_not n c c' Refusal.NoColumn low high m q = absurd (omega arith)
-started_not n c c' Refusal.NoWord low high m q = absurd (omega arith)
-started_not n c c' Refusal.Locked low high m q = absurd (omega arith)
-started_not n c c' Refusal.Protected low high m q =
+started_not : (p : Part) (c c' : Chip) (call : Call) (why : Refusal) → 10 ≤ number why → number why ≤ 12
+    → c'.control ≡ refused_after p c.control call why → c'.memory ≡ c.memory → NotStarted c c'
+started_not p c c' call Refusal.Dead low high m q = absurd (omega arith)
+started_not p c c' call Refusal.Unlawful low high m q = absurd (omega arith)
+started_not p c c' call Refusal.Busy low high m q = absurd (omega arith)
+started_not p c c' call Refusal.Unknown low high m q = absurd (omega arith)
+started_not p c c' call Refusal.NotBusy low high m q = absurd (omega arith)
+started_not p c c' call Refusal.Outside low high m q = absurd (omega arith)
+started_not p c c' call Refusal.NoColumn low high m q = absurd (omega arith)
+started_not p c c' call Refusal.NoWord low high m q = absurd (omega arith)
+started_not p c c' call Refusal.Locked low high m q = absurd (omega arith)
+started_not p c c' call Refusal.Protected low high m q =
     record { status = cc; fail = cc; register = cc; pointer = cc; wp = cc; tight = cc; range = cc; memory = q }
-started_not n c c' Refusal.PageFull low high m q =
+started_not p c c' call Refusal.PageFull low high m q =
     record { status = cc; fail = cc; register = cc; pointer = cc; wp = cc; tight = cc; range = cc; memory = q }
-started_not n c c' Refusal.OtherPlane low high m q =
+started_not p c c' call Refusal.OtherPlane low high m q =
     record { status = cc; fail = cc; register = cc; pointer = cc; wp = cc; tight = cc; range = cc; memory = q }
-started_not n c c' Refusal.ArrayFailed low high m q = absurd (omega arith)
-started_not n c c' Refusal.BadRecord low high m q = absurd (omega arith)
-started_not n c c' Refusal.ListFull low high m q = absurd (omega arith)
+started_not p c c' call Refusal.ArrayFailed low high m q = absurd (omega arith)
+started_not p c c' call Refusal.BadRecord low high m q = absurd (omega arith)
+started_not p c c' call Refusal.ListFull low high m q = absurd (omega arith)
 
 pub refused_starts : RefusedStarts
 refused_starts K o c c' e why t a low high =
-    started_not (ending o.part e.call) c c' why low high (moved_by K o c c' e why t a) (rests_at K o c c' e why t a high)
+    started_not o.part c c' e.call why low high (moved_by K o c c' e why t a) (rests_at K o c c' e why t a high)
 
 pub dead_chips_answer_1 : DeadChipsAnswer1
 unfolding answer

@@ -1,10 +1,10 @@
 -- More worked cases, computed. Assumes nothing.
 use Rattle.std.proofs.Common.{refl}
-use Rattle.device.specs.Controls.{blank, page_of}
+use Rattle.rules.specs.Controls.{blank, page_of}
 use Rattle.rules.specs.Answering.{answer}
 use Rattle.rules.specs.Asking.{operation}
 use Rattle.rules.specs.Moving.{control_after}
-use Rattle.rules.specs.Playing.{play}
+use Rattle.rules.specs.Bench.{play}
 use Rattle.rules.specs.Tour.{Tour}
 
 pub tour : Tour
@@ -26,11 +26,4 @@ tour = record {
   counts = refl;
   copies = refl;
   dead = refl;
-  fails = refl;
-  erase_fails = refl;
-  cut_fails = refl;
-  read_falls_back = refl;
-  erase_falls_back = refl;
-  stays = refl;
-  cut_copy = refl;
 }

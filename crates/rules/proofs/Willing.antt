@@ -5,21 +5,21 @@ use Rattle.std.proofs.lemmas.Bool.{eqb-true, eq-eqb, and_parts, and_from, not-fa
 use Rattle.words.specs.Kind.{Kind, KindLaws, all_lawful}
 use Rattle.arrays.specs.Meaning.{Meaning, Operation, nothing, programs, fills, accepts}
 use Rattle.records.specs.declared.call.Call.{Call}
-use Rattle.device.specs.declared.part.Part.{Part}
-use Rattle.device.specs.declared.part.Part.TheVariants.{K9K1208, K9K1216, K9F2808}
-use Rattle.device.specs.declared.state.Work.{Work}
-use Rattle.device.specs.declared.control.Opening.{Opening}
-use Rattle.device.specs.declared.control.Control.{Control}
-use Rattle.device.specs.Parts.{columns, most_rows, next_row}
-use Rattle.device.specs.States.{under}
+use Rattle.rules.specs.declared.part.Part.{Part}
+use Rattle.rules.specs.declared.part.Part.TheVariants.{K9K1208, K9K1216, K9F2808}
+use Rattle.rules.specs.declared.state.Work.{Work}
+use Rattle.rules.specs.declared.control.Opening.{Opening}
+use Rattle.rules.specs.declared.control.Control.{Control}
+use Rattle.rules.specs.Parts.{columns, most_rows, next_row}
+use Rattle.rules.specs.Controls.{under}
 use Rattle.rules.specs.Answering.{is_dead}
 use Rattle.rules.specs.Asking.{Ending, none, whole, torn, ending, operation_of, operation}
-use Rattle.rules.specs.Conduct.{willing, OnlyTheUnwillingFail, RowsCountLowFirst, RegisterIsLawful}
+use Rattle.rules.specs.Conduct.{willing, OnlyTheUnwillingFail, RowsCountLowFirst}
 use Rattle.rules.proofs.Lows.{IsLawful}
 use Rattle.rules.proofs.Registers.{LawfulPage, lawful_take, lawful_torn}
 use Rattle.rules.proofs.Failures.{fails}
 use Rattle.rules.proofs.Beyond.{fits_blank, fits_run}
-use Rattle.device.proofs.Pages.{few_columns}
+use Rattle.rules.proofs.Pages.{few_columns}
 use Rattle.rules.proofs.Logs.{register_kept}
 
 page_lawful : (K : Kind) (xs : List ℕ) → LawfulPage K xs → all_lawful K xs ≡ true
@@ -49,18 +49,17 @@ module _ (K : Kind) (L : KindLaws K) (p : Part) (m : Meaning) (same : m.holds.sh
       and_true true y e = e
       and_true false y e = refl
 
-  work_accepted : (codes : List ℕ) (n : Ending) (u : Option Work) → length codes ≡ 528 → LawfulPage K codes
-      → accepts K m (operation_of K p codes n u) ≡ willing m (operation_of K p codes n u)
-  work_accepted codes none u long lawful = refl
-  work_accepted codes whole None long lawful = refl
-  work_accepted codes torn None long lawful = refl
-  work_accepted codes whole (Some (Work.Program row closes)) long lawful =
+  work_accepted : (codes : List ℕ) (u : Option Work) (n : Ending) → length codes ≡ 528 → LawfulPage K codes
+      → accepts K m (operation_of K p codes u n) ≡ willing m (operation_of K p codes u n)
+  work_accepted codes None n long lawful = refl
+  work_accepted codes (Some w) none long lawful = refl
+  work_accepted codes (Some (Work.Program row closes)) whole long lawful =
       page_accepted row closes (take (columns p) codes) (front_long p codes long) (lawful_take K L (columns p) codes lawful)
-  work_accepted codes whole (Some (Work.Erase block)) long lawful = fill_accepted block K.erased L.erased_lawful
-  work_accepted codes torn (Some (Work.Program row closes)) long lawful =
+  work_accepted codes (Some (Work.Erase block)) whole long lawful = fill_accepted block K.erased L.erased_lawful
+  work_accepted codes (Some (Work.Program row closes)) torn long lawful =
       page_accepted row closes (map K.torn (take (columns p) codes)) (length-map (take (columns p) codes) K.torn ∙ front_long p codes long)
       (lawful_torn K L (take (columns p) codes) (lawful_take K L (columns p) codes lawful))
-  work_accepted codes torn (Some (Work.Erase block)) long lawful = fill_accepted block K.torn_erase L.torn_erase_lawful
+  work_accepted codes (Some (Work.Erase block)) torn long lawful = fill_accepted block K.torn_erase L.torn_erase_lawful
 
 accepted : (K : Kind) → KindLaws K → (o : Opening) (m : Meaning) (c : Control) (call : Call) → length c.register.codes ≡ 528 → LawfulPage K c.register.codes
     → accepts K m (operation K o m.holds.shape c call) ≡ willing m (operation K o m.holds.shape c call)
@@ -68,15 +67,12 @@ unfolding operation
 accepted K L o m c call long lawful = go (is_dead K o m.holds.shape) refl
   where
     x : Operation
-    x = operation_of K o.part c.register.codes (ending o.part call) (under c.state)
+    x = operation_of K o.part c.register.codes (under c.state) (ending o.part call)
 
     go : (d : Bool) → is_dead K o m.holds.shape ≡ d → accepts K m (cond d nothing x) ≡ willing m (cond d nothing x)
     go true e = refl
     go false e =
-        work_accepted K L o.part m (eqb-true _ _ (and_parts _ _ (not-false _ e)).0) c.register.codes (ending o.part call) (under c.state) long lawful
-
-pub register_is_lawful : RegisterIsLawful
-register_is_lawful K L o m es c n r = page_lawful K c.control.register.codes (register_kept K L o m es c n r)
+        work_accepted K L o.part m (eqb-true _ _ (and_parts _ _ (not-false _ e)).0) c.register.codes (under c.state) (ending o.part call) long lawful
 
 pub only_the_unwilling_fail : OnlyTheUnwillingFail
 only_the_unwilling_fail K L o m es e c c' n r t =

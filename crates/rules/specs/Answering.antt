@@ -4,20 +4,23 @@ use Rattle.refusals.specs.declared.Refusal.{Refusal}
 use Rattle.records.specs.declared.call.Call.{Call}
 use Rattle.words.specs.Kind.{Kind}
 use Rattle.arrays.specs.Meaning.{Shape, Contents, block_of, rows}
-use Rattle.device.specs.declared.part.Part.{Part}
-use Rattle.device.specs.declared.command.Command.{Command}
-use Rattle.device.specs.declared.state.Aim.{Aim}
-use Rattle.device.specs.declared.state.State.{State}
-use Rattle.device.specs.declared.control.Opening.{Opening}
-use Rattle.device.specs.declared.control.Control.{Control}
-use Rattle.device.specs.Parts.{columns, is_last, next_row}
-use Rattle.device.specs.Openings.{fits}
-use Rattle.device.specs.Commands.{decoded}
-use Rattle.device.specs.States.{in_load, in_page, in_erase, in_unlock, is_busy}
-use Rattle.device.specs.Controls.{status_of, is_protected, lock_code}
+use Rattle.rules.specs.declared.part.Part.{Part}
+use Rattle.rules.specs.declared.command.Command.{Command}
+use Rattle.rules.specs.declared.state.Aim.{Aim}
+use Rattle.rules.specs.declared.state.State.{State}
+use Rattle.rules.specs.declared.control.Opening.{Opening}
+use Rattle.rules.specs.declared.control.Control.{Control}
+use Rattle.rules.specs.Parts.{columns, cells, most_blocks, is_last, next_row}
+use Rattle.rules.specs.Commands.{decoded}
+use Rattle.rules.specs.Controls.{is_busy, status_of, is_protected, lock_code}
 
 abbrev pub Answer : Type 0
 Answer = Result ℕ Refusal
+
+-- the part and the limit fit an array of so many columns and blocks, with so many cells a word
+abbrev pub fits : Opening → ℕ → ℕ → ℕ → Bool
+fits o width blocks many = width == columns o.part && (many == cells o.part && (nat_lt 0 blocks
+    && (nat_le blocks (most_blocks o.part) && (nat_lt 0 o.limit && nat_lt o.limit 16))))
 
 -- a chip whose part and limit do not fit its array
 abbrev pub is_dead : Kind → Opening → Shape → Bool
@@ -69,39 +72,90 @@ answer_address o h c byte (State.Id next) = Err Refusal.Unknown
 answer_address o h c byte (State.LockCode block) = Err Refusal.Unknown
 answer_address o h c byte (State.Busy work) = Err Refusal.Busy
 
--- a call that busy does not know: refused there, else by what follows
-abbrev pub unless_busy : Control → Answer → Answer
-unless_busy c rest = unless (is_busy c.state) Refusal.Busy rest
+-- a call that only a load knows
+abbrev pub if_loading : State → (ℕ → ℕ → Bool → Answer) → Answer
+if_loading (State.Column purpose) f = Err Refusal.Unknown
+if_loading (State.Row aim taken row) f = Err Refusal.Unknown
+if_loading (State.PageOut row next) f = Err Refusal.Unknown
+if_loading (State.Load row next written) f = f row next written
+if_loading (State.EraseReady row) f = Err Refusal.Unknown
+if_loading (State.UnlockReady first) f = Err Refusal.Unknown
+if_loading State.Status f = Err Refusal.Unknown
+if_loading State.IdAddress f = Err Refusal.Unknown
+if_loading (State.Id next) f = Err Refusal.Unknown
+if_loading (State.LockCode block) f = Err Refusal.Unknown
+if_loading (State.Busy work) f = Err Refusal.Busy
 
--- a cycle with no meaning in the state
-abbrev pub unknown : Answer
-unknown = Err Refusal.Unknown
+-- D0h: only where the row of an erase is known
+abbrev pub answer_confirm : Part → Control → State → Answer
+answer_confirm p c (State.Column purpose) = Err Refusal.Unknown
+answer_confirm p c (State.Row aim taken row) = Err Refusal.Unknown
+answer_confirm p c (State.PageOut row next) = Err Refusal.Unknown
+answer_confirm p c (State.Load row next written) = Err Refusal.Unknown
+answer_confirm p c (State.EraseReady row) = unless (is_protected p c row) Refusal.Protected done
+answer_confirm p c (State.UnlockReady first) = Err Refusal.Unknown
+answer_confirm p c State.Status = Err Refusal.Unknown
+answer_confirm p c State.IdAddress = Err Refusal.Unknown
+answer_confirm p c (State.Id next) = Err Refusal.Unknown
+answer_confirm p c (State.LockCode block) = Err Refusal.Unknown
+answer_confirm p c (State.Busy work) = Err Refusal.Busy
+
+-- 8Ah: only while a page is read out
+abbrev pub answer_copy : State → Answer
+answer_copy (State.Column purpose) = Err Refusal.Unknown
+answer_copy (State.Row aim taken row) = Err Refusal.Unknown
+answer_copy (State.PageOut row next) = done
+answer_copy (State.Load row next written) = Err Refusal.Unknown
+answer_copy (State.EraseReady row) = Err Refusal.Unknown
+answer_copy (State.UnlockReady first) = Err Refusal.Unknown
+answer_copy State.Status = Err Refusal.Unknown
+answer_copy State.IdAddress = Err Refusal.Unknown
+answer_copy (State.Id next) = Err Refusal.Unknown
+answer_copy (State.LockCode block) = Err Refusal.Unknown
+answer_copy (State.Busy work) = Err Refusal.Busy
+
+-- 24h: only where the first block of a range is known
+abbrev pub answer_last : State → Answer
+answer_last (State.Column purpose) = Err Refusal.Unknown
+answer_last (State.Row aim taken row) = Err Refusal.Unknown
+answer_last (State.PageOut row next) = Err Refusal.Unknown
+answer_last (State.Load row next written) = Err Refusal.Unknown
+answer_last (State.EraseReady row) = Err Refusal.Unknown
+answer_last (State.UnlockReady first) = done
+answer_last State.Status = Err Refusal.Unknown
+answer_last State.IdAddress = Err Refusal.Unknown
+answer_last (State.Id next) = Err Refusal.Unknown
+answer_last (State.LockCode block) = Err Refusal.Unknown
+answer_last (State.Busy work) = Err Refusal.Busy
+
+-- a command that is taken in every state but busy
+abbrev pub starts : Control → Answer → Answer
+starts c rest = unless (is_busy c.state) Refusal.Busy rest
 
 abbrev pub answer_command : Opening → Contents → Bool → Control → Command → Answer
-answer_command o h failing c Command.ReadA = unless_busy c done
-answer_command o h failing c Command.ReadB = unless_busy c done
-answer_command o h failing c Command.ReadC = unless_busy c done
-answer_command o h failing c Command.Load = unless_busy c done
+answer_command o h failing c Command.ReadA = starts c done
+answer_command o h failing c Command.ReadB = starts c done
+answer_command o h failing c Command.ReadC = starts c done
+answer_command o h failing c Command.Load = starts c done
 answer_command o h failing c Command.Program =
-    unless_busy c (in_load c.state (λ row next written.
+    if_loading c.state (λ row next written.
     unless (not written) Refusal.NoWord
     (unless (is_protected o.part c row) Refusal.Protected
-    (unless (is_full o h row) Refusal.PageFull done))) unknown)
-answer_command o h failing c Command.EraseSetup = unless_busy c done
-answer_command o h failing c Command.EraseConfirm =
-    unless_busy c (in_erase c.state (λ row. unless (is_protected o.part c row) Refusal.Protected done) unknown)
-answer_command o h failing c Command.CopyBack = unless_busy c (in_page c.state (λ row next. done) unknown)
+    (unless (is_full o h row) Refusal.PageFull done)))
+answer_command o h failing c Command.EraseSetup = starts c done
+answer_command o h failing c Command.EraseConfirm = answer_confirm o.part c c.state
+answer_command o h failing c Command.CopyBack = answer_copy c.state
 answer_command o h failing c Command.Status = done
-answer_command o h failing c Command.Id = unless_busy c done
+answer_command o h failing c Command.Id = starts c done
 answer_command o h failing c Command.Reset = unless failing Refusal.ArrayFailed done
-answer_command o h failing c Command.Lock = unless_busy c (unless c.tight Refusal.Locked done)
-answer_command o h failing c Command.LockTight = unless_busy c done
-answer_command o h failing c Command.UnlockFirst = unless_busy c (unless c.tight Refusal.Locked done)
-answer_command o h failing c Command.UnlockLast = unless_busy c (in_unlock c.state (λ first. done) unknown)
-answer_command o h failing c Command.LockStatus = unless_busy c done
+answer_command o h failing c Command.Lock = starts c (unless c.tight Refusal.Locked done)
+answer_command o h failing c Command.LockTight = starts c done
+answer_command o h failing c Command.UnlockFirst = starts c (unless c.tight Refusal.Locked done)
+answer_command o h failing c Command.UnlockLast = answer_last c.state
+answer_command o h failing c Command.LockStatus = starts c done
 
 abbrev pub answer_cycle : Opening → Contents → Bool → Control → Option Command → Answer
-answer_cycle o h failing c None = unless_busy c unknown
+answer_cycle o h failing c None = starts c (Err Refusal.Unknown)
 answer_cycle o h failing c (Some x) = answer_command o h failing c x
 
 -- the maker's code, then the device code
@@ -130,18 +184,13 @@ answer_alive K o h failing c (Call.Command byte) = answer_cycle o h failing c (d
 answer_alive K o h failing c (Call.Address byte) = answer_address o h c byte c.state
 answer_alive K o h failing c (Call.Write code) =
     unless (not (K.lawful code)) Refusal.Unlawful
-    (unless_busy c (in_load c.state (λ row next written. unless (not (nat_lt next (columns o.part))) Refusal.NoColumn done) unknown))
+    (if_loading c.state (λ row next written. unless (not (nat_lt next (columns o.part))) Refusal.NoColumn done))
 answer_alive K o h failing c Call.Read = answer_read K o c c.state
-answer_alive K o h failing c (Call.Protect level) = unless (not (nat_lt level 2)) Refusal.Unlawful (unless_busy c done)
+answer_alive K o h failing c (Call.Protect level) = unless (not (nat_lt level 2)) Refusal.Unlawful (starts c done)
 answer_alive K o h failing c Call.Settle = unless (not (is_busy c.state)) Refusal.NotBusy (unless failing Refusal.ArrayFailed done)
 answer_alive K o h failing c (Call.Look row column) =
     unless (not (nat_lt row (rows h.shape))) Refusal.Outside
     (unless (not (nat_lt column h.shape.columns)) Refusal.NoColumn (Ok (h.code row column)))
 
--- what a chip answers; a dead one refuses every call
-abbrev pub answered : Kind → Opening → Contents → Bool → Control → Call → Answer
-answered K o h failing c call = unless (is_dead K o h.shape) Refusal.Dead (answer_alive K o h failing c call)
-
--- the same, shut: a proof sees through it only where it says so
 unfoldable pub answer : Kind → Opening → Contents → Bool → Control → Call → Answer
-answer K o h failing c call = answered K o h failing c call
+answer K o h failing c call = unless (is_dead K o h.shape) Refusal.Dead (answer_alive K o h failing c call)

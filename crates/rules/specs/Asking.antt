@@ -3,14 +3,14 @@ use Rattle.std.specs.Prelude.{ℕ, cond, List, map, take, Some, None, Option}
 use Rattle.records.specs.declared.call.Call.{Call}
 use Rattle.words.specs.Kind.{Kind}
 use Rattle.arrays.specs.Meaning.{Shape, Operation, nothing, programs, fills}
-use Rattle.device.specs.declared.part.Part.{Part}
-use Rattle.device.specs.declared.command.Command.{Command}
-use Rattle.device.specs.declared.state.Work.{Work}
-use Rattle.device.specs.declared.control.Opening.{Opening}
-use Rattle.device.specs.declared.control.Control.{Control}
-use Rattle.device.specs.Parts.{columns}
-use Rattle.device.specs.Commands.{decoded}
-use Rattle.device.specs.States.{under}
+use Rattle.rules.specs.declared.part.Part.{Part}
+use Rattle.rules.specs.declared.command.Command.{Command}
+use Rattle.rules.specs.declared.state.Work.{Work}
+use Rattle.rules.specs.declared.control.Opening.{Opening}
+use Rattle.rules.specs.declared.control.Control.{Control}
+use Rattle.rules.specs.Parts.{columns}
+use Rattle.rules.specs.Commands.{decoded}
+use Rattle.rules.specs.Controls.{under}
 use Rattle.rules.specs.Answering.{is_dead}
 
 -- how a call ends what is under way: not at all, whole, or cut off
@@ -48,21 +48,16 @@ ending p (Call.Protect level) = none
 ending p Call.Settle = whole
 ending p (Call.Look row column) = none
 
--- What the end of an operation asks of the array. A program takes the register's codes at the part's columns, an erase fills with the erased code; cut off, it is their
--- torn forms.
-abbrev pub operation_of : Kind → Part → List ℕ → Ending → Option Work → Operation
-operation_of K p codes none w = nothing
-operation_of K p codes whole None = nothing
-operation_of K p codes whole (Some (Work.Program row closes)) = programs row (take (columns p) codes) closes
-operation_of K p codes whole (Some (Work.Erase block)) = fills block K.erased
-operation_of K p codes torn None = nothing
-operation_of K p codes torn (Some (Work.Program row closes)) = programs row (map K.torn (take (columns p) codes)) closes
-operation_of K p codes torn (Some (Work.Erase block)) = fills block K.torn_erase
+-- A program takes the register's codes at the part's columns, an erase fills with the erased code; cut off, it is their torn forms.
+abbrev pub operation_of : Kind → Part → List ℕ → Option Work → Ending → Operation
+operation_of K p codes None e = nothing
+operation_of K p codes (Some work) none = nothing
+operation_of K p codes (Some (Work.Program row closes)) whole = programs row (take (columns p) codes) closes
+operation_of K p codes (Some (Work.Erase block)) whole = fills block K.erased
+operation_of K p codes (Some (Work.Program row closes)) torn = programs row (map K.torn (take (columns p) codes)) closes
+operation_of K p codes (Some (Work.Erase block)) torn = fills block K.torn_erase
 
--- what a call asks of the array; a dead chip asks nothing
-abbrev pub asks : Kind → Opening → Shape → Control → Call → Operation
-asks K o s c call = cond (is_dead K o s) nothing (operation_of K o.part c.register.codes (ending o.part call) (under c.state))
-
--- the same, shut
+-- a dead chip asks nothing
 unfoldable pub operation : Kind → Opening → Shape → Control → Call → Operation
-operation K o s c call = asks K o s c call
+operation K o h c call =
+    cond (is_dead K o h) nothing (operation_of K o.part c.register.codes (under c.state) (ending o.part call))

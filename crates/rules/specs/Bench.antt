@@ -1,20 +1,56 @@
--- Worked cases: calls on a new chip over an array that is always willing within its shape. Assumes nothing.
-use Rattle.std.specs.Prelude.{◌≡◌, ℕ, List, [], ◌∷◌, ◌++◌, replicate, Ok, Err}
+-- Worked cases: calls on a chip over an array that is always willing within its shape. Assumes nothing.
+use Rattle.std.specs.Prelude.{◌≡◌, ℕ, Bool, not, List, [], ◌∷◌, ◌++◌, replicate, Ok, Err}
 use Rattle.refusals.specs.declared.Refusal.{Refusal}
 use Rattle.records.specs.declared.call.Call.{Call}
 use Rattle.words.specs.Kind.{Kind}
 use Rattle.words.specs.Kinds.{byte_kind, word16_kind, doubting_kind}
-use Rattle.arrays.specs.Meaning.{new_contents, always_willing}
-use Rattle.device.specs.declared.part.Part.{Part}
-use Rattle.device.specs.declared.part.Part.TheVariants.{K9K1208, K9K1216, K9F2808}
-use Rattle.device.specs.Parts.{columns}
-use Rattle.device.specs.Controls.{fresh}
-use Rattle.rules.specs.Answering.{Answer}
-use Rattle.rules.specs.Playing.{play}
+use Rattle.arrays.specs.Meaning.{Contents, accepts, asked, new_contents, always_willing}
+use Rattle.rules.specs.declared.part.Part.{Part}
+use Rattle.rules.specs.declared.part.Part.TheVariants.{K9K1208, K9K1216, K9F2808}
+use Rattle.rules.specs.declared.control.Opening.{Opening}
+use Rattle.rules.specs.declared.control.Control.{Control}
+use Rattle.rules.specs.Parts.{columns}
+use Rattle.rules.specs.Controls.{fresh}
+use Rattle.rules.specs.Answering.{Answer, answer}
+use Rattle.rules.specs.Asking.{operation}
+use Rattle.rules.specs.Moving.{control_after}
+use Rattle.rules.specs.Running.{Chip, Event, Runs, answers}
+
+-- whether the array fails at a call
+abbrev pub fails_at : Kind → Opening → Contents → Control → Call → Bool
+fails_at K o h c call = not (accepts K (always_willing h) (operation K o h.shape c call))
+
+abbrev pub answer_at : Kind → Opening → Contents → Control → Call → Answer
+answer_at K o h c call = answer K o h (fails_at K o h c call) c call
+
+abbrev pub control_at : Kind → Opening → Contents → Control → Call → Control
+control_at K o h c call = control_after K o.part h.code c call (answer_at K o h c call)
+
+abbrev pub contents_at : Kind → Opening → Contents → Control → Call → Contents
+contents_at K o h c call = asked K (operation K o h.shape c call) (not (fails_at K o h c call)) h
+
+-- the answers to calls, one after another
+unfoldable pub play : Kind → Opening → Contents → Control → List Call → List Answer
+play K o h c [] = []
+play K o h c (call ∷ cs) = answer_at K o h c call ∷ play K o (contents_at K o h c call) (control_at K o h c call) cs
+
+-- the same calls as a run
+abbrev pub events : Kind → Opening → Contents → Control → List Call → List Event
+events K o h c [] = []
+events K o h c (call ∷ cs) =
+    record { call = call; answer = answer_at K o h c call; failed = fails_at K o h c call } ∷ events K o (contents_at K o h c call) (control_at K o h c call) cs
+
+abbrev pub chip_at : Contents → Control → Chip
+chip_at h c = record { control = c; memory = always_willing h }
+
+-- what is played is a run, with those answers
+abbrev pub PlayIsARun : Type 0
+PlayIsARun = (K : Kind) (o : Opening) (h : Contents) (c : Control) (cs : List Call)
+    → (c' : Chip) × Runs K o (chip_at h c) (events K o h c cs) c' × (answers (events K o h c cs) ≡ play K o h c cs)
 
 -- a new chip of so many blocks, device code 76h, limit 3
 abbrev pub on_blocks : ℕ → Kind → Part → List Call → List Answer
-on_blocks n K p cs = play K always_willing (record { part = p; device = 0x76; limit = 3 }) (new_contents K (record { blocks = n; columns = columns p })) (fresh K.erased) cs
+on_blocks n K p cs = play K (record { part = p; device = 0x76; limit = 3 }) (new_contents K (record { blocks = n; columns = columns p })) (fresh K.erased) cs
 
 -- a new chip of two blocks
 abbrev pub on_new : Kind → Part → List Call → List Answer

@@ -3,10 +3,10 @@ use Rattle.std.specs.Prelude.{◌≡◌, ℕ, ◌<◌, ◌↔◌, List, [], ◌�
 use Rattle.records.specs.declared.call.Call.{Call}
 use Rattle.words.specs.Kind.{Kind, KindLaws}
 use Rattle.arrays.specs.Meaning.{Shape, Contents, Meaning, Inside, New}
-use Rattle.device.specs.declared.state.State.{State}
-use Rattle.device.specs.declared.control.Opening.{Opening}
-use Rattle.device.specs.Parts.{columns}
-use Rattle.device.specs.Controls.{fresh}
+use Rattle.rules.specs.declared.state.State.{State}
+use Rattle.rules.specs.declared.control.Opening.{Opening}
+use Rattle.rules.specs.Parts.{columns}
+use Rattle.rules.specs.Controls.{fresh}
 use Rattle.rules.specs.Running.{Chip, Event, Step, Runs, after, calls, answers, failures, opened, Alike}
 use Rattle.rules.specs.Written.{Landing, programmed, filled, Lowest, said, Wrote}
 

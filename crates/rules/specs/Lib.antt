@@ -1,3 +1,6 @@
+pub mod Parts
+pub mod Commands
+pub mod Controls
 pub mod Answering
 pub mod Asking
 pub mod Moving
@@ -5,6 +8,5 @@ pub mod Running
 pub mod Written
 pub mod Equality
 pub mod Conduct
-pub mod Playing
 pub mod Bench
 pub mod Tour

@@ -3,9 +3,9 @@ use Rattle.std.specs.Prelude.{◌≡◌, ℕ, zero, suc, Bool, not, List, [], �
 use Rattle.records.specs.declared.call.Call.{Call}
 use Rattle.words.specs.Kind.{Kind}
 use Rattle.arrays.specs.Meaning.{Meaning, nothing, Performs}
-use Rattle.device.specs.declared.control.Opening.{Opening}
-use Rattle.device.specs.declared.control.Control.{Control}
-use Rattle.device.specs.Controls.{fresh}
+use Rattle.rules.specs.declared.control.Opening.{Opening}
+use Rattle.rules.specs.declared.control.Control.{Control}
+use Rattle.rules.specs.Controls.{fresh}
 use Rattle.rules.specs.Answering.{Answer, answer}
 use Rattle.rules.specs.Asking.{operation}
 use Rattle.rules.specs.Moving.{control_after}
@@ -38,11 +38,6 @@ abbrev pub after : {K : Kind} {o : Opening} {c c' : Chip} {es : List Event} → 
 after (stop {c = c}) n = c
 after (next {c = c} t r) zero = c
 after (next t r) (suc n) = after r n
-
--- a run on whose way, from the first chip to the last, P holds of what the array means
-pub record RunsIn (P : Meaning → Type 0) (K : Kind) (o : Opening) (c : Chip) (es : List Event) (c' : Chip) : Type 0 where
-  pub run : Runs K o c es c'
-  pub on_the_way : (n : ℕ) → P (after run n).memory
 
 abbrev pub calls : List Event → List Call
 calls es = map (λ e. e.call) es

@@ -1,15 +1,12 @@
--- More worked cases; with those of `Bench`, every command and every refusal that a chip gives. Assumes nothing.
+-- More worked cases: every command and every refusal that a chip gives. Assumes nothing.
 use Rattle.std.specs.Prelude.{◌≡◌, List, [], ◌∷◌, ◌++◌, Ok, Err}
 use Rattle.refusals.specs.declared.Refusal.{Refusal}
 use Rattle.records.specs.declared.call.Call.{Call}
-use Rattle.words.specs.Kinds.{byte_kind, word16_kind, doubting_kind}
-use Rattle.arrays.specs.Meaning.{new_contents, always_willing}
-use Rattle.arrays.specs.Defect.{defect}
-use Rattle.device.specs.declared.part.Part.TheVariants.{K9K1208, K9K1216, K9F2808}
-use Rattle.device.specs.Controls.{fresh}
-use Rattle.rules.specs.Answering.{Answer}
-use Rattle.rules.specs.Playing.{play}
-use Rattle.rules.specs.Bench.{on_new, taken, program, fetch, block_0, block_1}
+use Rattle.words.specs.Kinds.{byte_kind, word16_kind}
+use Rattle.arrays.specs.Meaning.{new_contents}
+use Rattle.rules.specs.declared.part.Part.TheVariants.{K9K1208, K9K1216, K9F2808}
+use Rattle.rules.specs.Controls.{fresh}
+use Rattle.rules.specs.Bench.{on_new, taken, play, program, fetch, block_0, block_1}
 
 -- 23h and 24h with these blocks; on parts with lock
 abbrev pub unlock : List Call → List Call → List Call
@@ -22,12 +19,6 @@ lock_of block = Call.Command 0x7A ∷ block ++ Call.Read ∷ []
 -- 60h and D0h on row 0; on K9F2808
 abbrev pub erase : List Call
 erase = Call.Command 0x60 ∷ Call.Address 0 ∷ Call.Address 0 ∷ Call.Command 0xD0 ∷ []
-
--- a new K9F2808 of two blocks, the first of which is listed as defective
-abbrev pub on_defect : List Call → List Answer
-on_defect cs =
-    play byte_kind (λ h. defect (always_willing h) (0 ∷ [])) (record { part = K9F2808; device = 0x76; limit = 3 })
-    (new_contents byte_kind (record { blocks = 2; columns = 528 })) (fresh 0xFF) cs
 
 pub record Tour : Type 0 where
   -- 90h takes any byte; reads give ECh, the device code, then 7 each time
@@ -97,37 +88,6 @@ pub record Tour : Type 0 where
       ∷ Call.Address 0 ∷ Call.Address 0 ∷ [])
       ≡ taken 8 ++ Err Refusal.Unknown ∷ taken 6 ++ Err Refusal.Unknown ∷ Ok 0 ∷ Ok 0 ∷ Err Refusal.Unknown ∷ Ok 0 ∷ Ok 0 ∷ Ok 0x80 ∷ taken 10 ++ Err Refusal.PageFull ∷ []
   -- a limit of 0 makes the chip dead
-  pub dead : play byte_kind always_willing (record { part = K9F2808; device = 0x98; limit = 0 }) (new_contents byte_kind (record { blocks = 2; columns = 528 })) (fresh 0xFF)
+  pub dead : play byte_kind (record { part = K9F2808; device = 0x98; limit = 0 }) (new_contents byte_kind (record { blocks = 2; columns = 528 })) (fresh 0xFF)
       (Call.Command 0x00 ∷ Call.Look 0 0 ∷ Call.Command 0xFF ∷ Call.Protect 7 ∷ Call.Settle ∷ Call.Read ∷ [])
       ≡ Err Refusal.Dead ∷ Err Refusal.Dead ∷ Err Refusal.Dead ∷ Err Refusal.Dead ∷ Err Refusal.Dead ∷ Err Refusal.Dead ∷ []
-  -- settle on a listed block returns 13: busy ends, the fail bit is 1, the cells and the count are as before, so that a fourth program starts
-  pub fails : on_defect
-      (program 0x0F ++ Call.Settle ∷ Call.Read ∷ Call.Look 0 0 ∷ program 0x0F ++ Call.Settle ∷ program 0x0F ++ Call.Settle ∷ program 0x0F ++ erase ++ [])
-      ≡ taken 6 ++ Err Refusal.ArrayFailed ∷ Ok 0xC1 ∷ Ok 0xFF ∷ taken 6 ++ Err Refusal.ArrayFailed ∷ taken 6 ++ Err Refusal.ArrayFailed ∷ taken 6
-      ++ Err Refusal.Busy ∷ Err Refusal.Busy ∷ Err Refusal.Busy ∷ Err Refusal.Busy ∷ []
-  -- an erase of it fails too; the other block does not
-  pub erase_fails : on_defect
-      (erase ++ Call.Settle ∷ Call.Read ∷ Call.Command 0x60 ∷ Call.Address 32 ∷ Call.Address 0 ∷ Call.Command 0xD0 ∷ Call.Settle ∷ Call.Read ∷ [])
-      ≡ taken 4 ++ Err Refusal.ArrayFailed ∷ Ok 0xC1 ∷ taken 5 ++ Ok 0xC0 ∷ []
-  -- FFh that returns 13 resets all the same: the fail bit is 0, and the chip waits as after 00h
-  pub cut_fails : on_defect
-      (Call.Command 0x50 ∷ program 0x0F ++ Call.Command 0xFF ∷ Call.Read ∷ Call.Command 0x70 ∷ Call.Read ∷ program 0x0F ++ Call.Settle ∷ fetch ++ Call.Read ∷ [])
-      ≡ taken 7 ++ Err Refusal.ArrayFailed ∷ Err Refusal.Unknown ∷ Ok 0 ∷ Ok 0xC0 ∷ taken 6 ++ Err Refusal.ArrayFailed ∷ taken 4 ++ Ok 0xFF ∷ []
-  -- B falls back after a read and after an erase, too
-  pub read_falls_back : on_new byte_kind K9F2808
-      (Call.Command 0x01 ∷ Call.Address 0 ∷ Call.Address 0 ∷ Call.Address 0 ∷ program 0x11 ++ Call.Settle ∷ Call.Look 0 0 ∷ Call.Look 0 256 ∷ [])
-      ≡ taken 11 ++ Ok 0x11 ∷ Ok 0xFF ∷ []
-  pub erase_falls_back : on_new byte_kind K9F2808
-      (Call.Command 0x01 ∷ Call.Command 0x60 ∷ Call.Address 0 ∷ Call.Address 0 ∷ program 0x11 ++ Call.Settle ∷ Call.Look 0 0 ∷ Call.Look 0 256 ∷ [])
-      ≡ taken 11 ++ Ok 0x11 ∷ Ok 0xFF ∷ []
-  -- it stays at the cycles of 90h, 7Ah, 23h and 24h
-  pub stays : on_new byte_kind K9K1208
-      (Call.Command 0x01 ∷ Call.Command 0x90 ∷ Call.Address 0 ∷ lock_of block_0 ++ unlock block_0 block_0 ++ Call.Command 0x80 ∷ Call.Address 0 ∷ block_0 ++ Call.Write 0x11
-      ∷ Call.Command 0x10 ∷ Call.Settle ∷ Call.Look 0 256 ∷ Call.Look 0 0 ∷ [])
-      ≡ taken 7 ++ Ok 2 ∷ taken 16 ++ Ok 0x11 ∷ Ok 0xFF ∷ []
-  -- a copy-back that is cut off writes torn forms, closes the page, and leaves the register as it was
-  pub cut_copy : on_new doubting_kind K9K1208
-      (unlock block_0 block_0 ++ Call.Command 0x80 ∷ Call.Address 0 ∷ block_0 ++ Call.Write 0x0F ∷ Call.Command 0x10 ∷ Call.Settle ∷ Call.Command 0x00 ∷ Call.Address 0 ∷ block_0
-      ++ Call.Command 0x8A ∷ Call.Address 0 ∷ Call.Address 1 ∷ Call.Address 0 ∷ Call.Address 0 ∷ Call.Command 0xFF ∷ Call.Look 1 0 ∷ Call.Look 1 1
-      ∷ Call.Command 0x80 ∷ Call.Address 0 ∷ Call.Address 1 ∷ Call.Address 0 ∷ Call.Address 0 ∷ Call.Write 0x0F ∷ Call.Command 0x10 ∷ [])
-      ≡ taken 27 ++ Ok 0xF00F ∷ Ok 0x00FF ∷ taken 6 ++ Err Refusal.PageFull ∷ []

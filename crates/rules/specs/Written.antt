@@ -3,11 +3,11 @@ use Rattle.std.specs.Prelude.{◌≡◌, ℕ, ◌<◌, ◌≤◌, true, ◌≢�
 use Rattle.records.specs.declared.call.Call.{Call}
 use Rattle.words.specs.Kind.{Kind}
 use Rattle.arrays.specs.Meaning.{block_of}
-use Rattle.device.specs.declared.part.Part.{Part}
-use Rattle.device.specs.declared.state.Work.{Work}
-use Rattle.device.specs.declared.control.Control.{Control}
-use Rattle.device.specs.Parts.{columns}
-use Rattle.device.specs.States.{under}
+use Rattle.rules.specs.declared.part.Part.{Part}
+use Rattle.rules.specs.declared.state.Work.{Work}
+use Rattle.rules.specs.declared.control.Control.{Control}
+use Rattle.rules.specs.Parts.{columns}
+use Rattle.rules.specs.Controls.{under}
 use Rattle.rules.specs.Answering.{Answer}
 use Rattle.rules.specs.Asking.{Ending, none, whole, torn, ending}
 use Rattle.rules.specs.Moving.{control_after}

@@ -1,4 +1,9 @@
-// The rules of the chips, as definitions, and the laws over runs of calls. A theorem is the promise of a function that does nothing else.
+// The rules of the chips: the types they speak of, their definitions, and the laws over runs of calls.
 pub mod cases;
+pub mod command;
 pub mod conduct;
+pub mod control;
 pub mod laws;
+pub mod part;
+pub mod register;
+pub mod state;

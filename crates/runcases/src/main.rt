@@ -1,8 +1,8 @@
 // Plays traces from the standard input, each on a new chip of two blocks, and says what each comes to.
 // A line is a part, a limit, the room for result bytes, and the trace: `.CM` stands for the two letters, `80` for a byte.
 // A line that begins with # is printed as it is.
-use device::control::Opening;
-use device::part::Part;
+use rules::control::Opening;
+use rules::part::Part;
 use runner::job::run_on_memory;
 use std::alloc::{AllocError, Global};
 use std::io;
@@ -29,6 +29,18 @@ struct Played {
     results: Vec<u8>,
 }
 
+fn part_of(word: &str) -> Option<Part> {
+    if word == "K9K1208" {
+        Some(Part::K9K1208)
+    } else if word == "K9K1216" {
+        Some(Part::K9K1216)
+    } else if word == "K9F2808" {
+        Some(Part::K9F2808)
+    } else {
+        None
+    }
+}
+
 // Adds a mark as it is, or the byte of two digits.
 fn add_word(trace: &mut Vec<u8>, word: &str) -> Option<()> {
     match word.strip_prefix(".") {
@@ -39,7 +51,7 @@ fn add_word(trace: &mut Vec<u8>, word: &str) -> Option<()> {
 
 fn case_of(heap: Global, line: &str) -> Option<Case> {
     let mut words = line.split_whitespace();
-    let part = Part::named(words.next()?)?;
+    let part = part_of(words.next()?)?;
     let limit = u8::from_str_radix(words.next()?, 10).ok()?;
     let room = u16::from_str_radix(words.next()?, 10).ok()?;
     let mut trace = Vec::new(heap);

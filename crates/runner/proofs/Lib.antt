@@ -1,3 +1,2 @@
-pub mod Courses
 pub mod Turns
-pub mod Lents
+pub mod Accepted

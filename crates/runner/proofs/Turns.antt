@@ -1,21 +1,15 @@
 -- What one turn of `run` keeps, and how it ends. Assumes nothing.
-use Rattle.std.proofs.Common.{◌≡◌, ℕ, suc, ◌+◌, ◌-◌, ◌*◌, ◌/◌, ◌<◌, ◌≤◌, Bool, true, false, cond, not, ◌&&◌, eqb, leb, ◌⊎◌, List, [], ◌∷◌, ◌++◌, length, take, drop, Some, None, Ok, Err, sym, refl, ap, ◌∙◌, subst, inl, inr, ⊎_elim, append_assoc, append-nil, arith, length-append, length-drop, eqb-true, leb-false, leb-true}
+use Rattle.std.proofs.Common.{◌≡◌, ℕ, ◌+◌, ◌-◌, ◌<◌, ◌≤◌, Bool, true, false, not, ◌&&◌, eqb, leb, ◌⊎◌, List, [], ◌∷◌, ◌++◌, length, take, drop, Some, None, Ok, Err, sym, refl, ap, ◌∙◌, subst, inl, inr, ⊎_elim, append_assoc, arith, length-append, length-drop, eqb-true, leb-false, leb-true}
 use borrow.Author.Tests.{eqb-false}
 use Rattle.std.proofs.lemmas.Bool.{and_parts, and_cases}
-use Rattle.std.proofs.lemmas.List.{take_at, drop_at, drop-drop, length-take-le, take-append-drop, map-append}
-use Rattle.records.specs.declared.call.Call.{Call}
-use Rattle.records.specs.Records.{record_of, first, Begins}
-use Rattle.records.specs.Readings.{joined}
+use Rattle.std.proofs.lemmas.List.{take_at, drop_at, drop-drop, length-take-le, take-append-drop}
+use Rattle.records.specs.Records.{first}
 use Rattle.words.specs.Kind.{Kind}
-use Rattle.arrays.specs.Meaning.{Meaning}
-use Rattle.device.specs.declared.control.Opening.{Opening}
+use Rattle.rules.specs.declared.control.Opening.{Opening}
 use Rattle.rules.specs.Answering.{Answer}
-use Rattle.rules.specs.Running.{Chip, Event, Step, RunsIn, calls, answers}
-use Rattle.rules.proofs.Snocs.{in_more, in_none}
-use Rattle.runner.specs.Results.{result_bytes, bad_bytes, all_results}
-use Rattle.runner.specs.Course.{Course, stopped, onto, course, written_by, told}
-use Rattle.runner.specs.Ran.{its_course, Ran}
-use Rattle.runner.proofs.Courses.{course_one, onto_onto}
+use Rattle.rules.specs.Running.{Chip, Event, Step}
+use Rattle.runner.specs.Results.{result_bytes, bad_bytes}
+use Rattle.runner.specs.Played.{Plays, full, ended, bad, one, Ran}
 
 pub four : (a : Answer) → length (result_bytes a) ≡ 4
 four (Ok v) = refl
@@ -55,53 +49,28 @@ module _ (out bytes tail : List ℕ) (w k : ℕ) (within : w ≤ length out) (si
   back : drop (w + k) (take w out ++ (bytes ++ tail)) ≡ tail
   back = ap (drop (w + k)) (sym (append_assoc (take w out) bytes tail)) ∙ drop_at (take w out ++ bytes) tail (w + k) len
 
--- one more at the end
-results_more : (xs : List Answer) (a : Answer) → all_results (xs ++ a ∷ []) ≡ all_results xs ++ result_bytes a
-results_more [] a = append-nil (result_bytes a)
-results_more (x ∷ xs) a = ap (λ (l : List ℕ). result_bytes x ++ l) (results_more xs a) ∙ sym (append_assoc (result_bytes x) (all_results xs) (result_bytes a))
-
-joined_more : (cs : List Call) (c : Call) → joined (cs ++ c ∷ []) ≡ joined cs ++ record_of c
-joined_more [] c = append-nil (record_of c)
-joined_more (x ∷ cs) c = ap (λ (l : List ℕ). record_of x ++ l) (joined_more cs c) ∙ sym (append_assoc (record_of x) (joined cs) (record_of c))
-
-four_each : (es : List Event) → length (all_results (answers es)) ≡ 4 * length (calls es)
-four_each [] = refl
-four_each (e ∷ es) = omega (arith, length-append (result_bytes e.answer) (all_results (answers es)), four e.answer, four_each es)
-
-module _ (P : Meaning → Type 0) (K : Kind) (o : Opening) where
-  -- So far c₀ went to c through the calls of `before`, whose records are what t₀ has in front of rest; their results stand at the front of out. The course of the whole is
-  -- the course of the rest with these calls in front.
+module _ (K : Kind) (o : Opening) where
+  -- So far c₀ went to c and t₀ to rest, and `written` result bytes stand at the front of out. What the rest comes to, the whole comes to with that in front.
   pub record Sofar (c0 : Chip) (t0 out0 : List ℕ) (c : Chip) (rest out : List ℕ) (written : ℕ) : Type 0 where
     pub shorter : length rest ≤ length t0
     pub room : written ≤ length out0
     pub same : length out ≡ length out0
     pub kept : drop written out ≡ drop written out0
     pub before : List Event
-    pub run : RunsIn P K o c0 before c
-    pub read : t0 ≡ joined (calls before) ++ rest
-    pub front : take written out ≡ all_results (answers before)
-    pub goes : its_course t0 out0 ≡ onto (calls before) (length t0 - length rest) (course ((length out0 - written) / 4) rest)
+    pub goes_on : (es : List Event) (bytes : List ℕ) (used : ℕ) (n : Chip) → Plays K o c rest (length out0 - written) es bytes used n
+        → Plays K o c0 t0 (length out0) (before ++ es) (take written out ++ bytes) ((length t0 - length rest) + used) n
 
-  -- one course as another with nothing in front
-  bare : (k : Course) (i : ℕ) → i ≡ 0 → k ≡ onto [] i k
-  bare k i e x = record { calls = k.calls; used = used x; bad = k.bad }
-    where
-      used : k.used ≡ i + k.used
-      used = omega arith
-
-  pub start : (c : Chip) (t out : List ℕ) → P c.memory → Sofar c t out c t out 0
-  start c t out p = record {
+  pub start : (c : Chip) (t out : List ℕ) → Sofar c t out c t out 0
+  start c t out = record {
     shorter = omega arith;
     room = omega arith;
     same = refl;
     kept = refl;
     before = [];
-    run = in_none P p;
-    read = refl;
-    front = refl;
-    goes =
-        let r : length out ≡ length out - 0 = omega arith in
-        bare (its_course t out) (length t - length t) (omega arith) ∙ ap (λ (n : ℕ). onto [] (length t - length t) (course (n / 4) t)) r;
+    goes_on = λ es bytes used n p.
+        let r : length out - 0 ≡ length out = omega arith in
+        let u : used ≡ (length t - length t) + used = omega arith in
+        subst (λ (k : ℕ). Plays K o c t (length out) es bytes k n) u (subst (λ (k : ℕ). Plays K o c t k es bytes used n) r p);
   }
 
   module _ (c0 : Chip) (t0 out0 : List ℕ) (c : Chip) (rest out : List ℕ) (written : ℕ) (so : Sofar c0 t0 out0 c rest out written) where
@@ -112,70 +81,59 @@ module _ (P : Meaning → Type 0) (K : Kind) (o : Opening) where
     past : (k : ℕ) → drop (written + k) out ≡ drop (written + k) out0
     past k = sym (drop-drop k written out) ∙ ap (drop k) so.kept ∙ drop-drop k written out0
 
-    pub one_more : (e : Event) (c' : Chip) (next after : List ℕ) → 4 ≤ length out0 - written → first rest ≡ Some (e.call, next) → Begins rest e.call next
-        → Step K o c e c' → P c'.memory → after ≡ take written out ++ (result_bytes e.answer ++ drop (written + 4) out) → Sofar c0 t0 out0 c' next after (written + 4)
-    one_more e c' next after h f begins s p wrote =
+    pub one_more : (e : Event) (c' : Chip) (next after : List ℕ) → 4 ≤ length out0 - written → first rest ≡ Some (e.call, next) → length next < length rest
+        → Step K o c e c' → after ≡ take written out ++ (result_bytes e.answer ++ drop (written + 4) out) → Sofar c0 t0 out0 c' next after (written + 4)
+    one_more e c' next after h f less s told =
         let bs : List ℕ = result_bytes e.answer in
-        let fr : take (written + 4) after ≡ take written out ++ bs = ap (take (written + 4)) wrote ∙ front out bs (drop (written + 4) out) written 4 within (four e.answer) in
-        let bk : drop (written + 4) after ≡ drop (written + 4) out = ap (drop (written + 4)) wrote ∙ back out bs (drop (written + 4) out) written 4 within (four e.answer) in
-        let cs : List Call = calls so.before in
-        let names : calls (so.before ++ e ∷ []) ≡ cs ++ e.call ∷ [] = map-append (λ x. x.call) so.before (e ∷ []) in
-        let less : length rest ≡ length (record_of e.call) + length next = ap length begins.joins ∙ length-append (record_of e.call) next in
-        let room : (length out0 - written) / 4 ≡ suc ((length out0 - (written + 4)) / 4) = omega arith in
-        let size : (length t0 - length rest) + (length rest - length next) ≡ length t0 - length next = omega (arith, so.shorter, less) in
+        let fr : take (written + 4) after ≡ take written out ++ bs = ap (take (written + 4)) told ∙ front out bs (drop (written + 4) out) written 4 within (four e.answer) in
+        let bk : drop (written + 4) after ≡ drop (written + 4) out = ap (drop (written + 4)) told ∙ back out bs (drop (written + 4) out) written 4 within (four e.answer) in
         record {
-          shorter = omega (arith, so.shorter, less);
+          shorter = omega (arith, so.shorter);
           room = omega arith;
           same =
-              ap length wrote ∙ length-append (take written out) (bs ++ drop (written + 4) out)
+              ap length told ∙ length-append (take written out) (bs ++ drop (written + 4) out)
               ∙ (let p = length-take-le written out within in
               let q = length-append bs (drop (written + 4) out) in
               let d = length-drop (written + 4) out in
               omega (arith, p, q, d, four e.answer, so.same, so.room));
           kept = bk ∙ past 4;
-          before = so.before ++ e ∷ [];
-          run = in_more P so.run s p;
-          read =
-              so.read ∙ ap (λ (l : List ℕ). joined cs ++ l) begins.joins ∙ sym (append_assoc (joined cs) (record_of e.call) next)
-              ∙ ap (λ (l : List ℕ). l ++ next) (sym (joined_more cs e.call) ∙ ap joined (sym names));
-          front =
-              fr ∙ ap (λ (l : List ℕ). l ++ bs) so.front ∙ sym (results_more (answers so.before) e.answer)
-              ∙ ap all_results (sym (map-append (λ x. x.answer) so.before (e ∷ [])));
-          goes =
-              so.goes ∙ ap (λ (n : ℕ). onto cs (length t0 - length rest) (course n rest)) room
-              ∙ ap (onto cs (length t0 - length rest)) (course_one ((length out0 - (written + 4)) / 4) rest e.call next f)
-              ∙ onto_onto cs (e.call ∷ []) (length t0 - length rest) (length rest - length next) (length t0 - length next) _ size
-              ∙ ap (λ (l : List Call). onto l (length t0 - length next) (course ((length out0 - (written + 4)) / 4) next)) (sym names);
+          before = so.before ++ (e ∷ []);
+          goes_on = λ es bytes used n p.
+              let r : length out0 - (written + 4) ≡ (length out0 - written) - 4 = omega arith in
+              let p2 = subst (λ (k : ℕ). Plays K o c' next k es bytes used n) r p in
+              let q = so.goes_on (e ∷ es) (bs ++ bytes) ((length rest - length next) + used) n (one h f s p2) in
+              let u : (length t0 - length rest) + ((length rest - length next) + used) ≡ (length t0 - length next) + used = omega (arith, so.shorter) in
+              let b : take written out ++ (bs ++ bytes) ≡ take (written + 4) after ++ bytes = sym (append_assoc (take written out) bs bytes) ∙ ap (λ (l : List ℕ). l ++ bytes) (sym fr) in
+              let v : so.before ++ (e ∷ es) ≡ (so.before ++ (e ∷ [])) ++ es = sym (append_assoc so.before (e ∷ []) es) in
+              subst (λ (l : List Event). Plays K o c0 t0 (length out0) l (take (written + 4) after ++ bytes) ((length t0 - length next) + used) n) v
+              (subst (λ (l : List ℕ). Plays K o c0 t0 (length out0) (so.before ++ (e ∷ es)) l ((length t0 - length next) + used) n) b
+              (subst (λ (k : ℕ). Plays K o c0 t0 (length out0) (so.before ++ (e ∷ es)) (take written out ++ (bs ++ bytes)) k n) u q));
         }
 
-    -- the run ends here: at the end of the trace or of the room, or at a bad record, which is told
-    pub finish : (bad : Bool) (after : List ℕ) → course ((length out0 - written) / 4) rest ≡ record { calls = []; used = 0; bad = bad }
-        → after ≡ take written out ++ (cond bad bad_bytes [] ++ drop (written + cond bad 4 0) out)
-        → Ran P K o c0 t0 out0 (length t0 - length rest) (written + cond bad 4 0) after c
-    finish bad after end wrote =
-        let cs : List Call = calls so.before in
-        let k : Course = record { calls = cs ++ []; used = (length t0 - length rest) + 0; bad = bad } in
-        let all : its_course t0 out0 ≡ k = so.goes ∙ ap (onto cs (length t0 - length rest)) end in
-        let names : cs ++ [] ≡ cs = append-nil cs in
-        let long : written ≡ 4 * length cs = sym (length-take-le written out within) ∙ ap length so.front ∙ four_each so.before in
-        let size : length t0 ≡ length (joined cs) + length rest = ap length so.read ∙ length-append (joined cs) rest in
-        record {
-          events = so.before;
-          run = so.run;
-          played = sym (ap (λ (x : Course). x.calls) all ∙ names);
-          uses = (let u : length t0 - length rest ≡ (length t0 - length rest) + 0 = omega arith in u) ∙ sym (ap (λ (x : Course). x.used) all);
-          writes = ap (λ (n : ℕ). n + cond bad 4 0) (long ∙ ap (λ (l : List Call). 4 * length l) (sym names)) ∙ sym (ap written_by all);
-          stands =
-              wrote ∙ sym (append_assoc (take written out) (cond bad bad_bytes []) (drop (written + cond bad 4 0) out))
-              ∙ ap (λ (l : List ℕ). (l ++ cond bad bad_bytes []) ++ drop (written + cond bad 4 0) out) so.front
-              ∙ ap (λ (l : List ℕ). told k (answers so.before) ++ l) (past (cond bad 4 0))
-              ∙ ap (λ (x : Course). told x (answers so.before) ++ drop (written + cond bad 4 0) out0) (sym all);
-          whole = ap (take (length t0 - length rest)) so.read ∙ take_at (joined cs) rest (length t0 - length rest) (omega (arith, size));
-        }
+    -- the run ends here, with these bytes more
+    pub finish : (bytes after : List ℕ) (k : ℕ) → Plays K o c rest (length out0 - written) [] bytes 0 c → length bytes ≡ k
+        → after ≡ take written out ++ (bytes ++ drop (written + k) out) → Ran K o c0 t0 out0 (length t0 - length rest) (written + k) after c
+    finish bytes after k p size told = record {
+      events = so.before ++ [];
+      bytes = take written out ++ bytes;
+      plays =
+          let u : (length t0 - length rest) + 0 ≡ length t0 - length rest = omega arith in
+          subst (λ (i : ℕ). Plays K o c0 t0 (length out0) (so.before ++ []) (take written out ++ bytes) i c) u (so.goes_on [] bytes 0 c p);
+      count = sym (len out bytes [] written k within size);
+      stands = told ∙ sym (append_assoc (take written out) bytes (drop (written + k) out)) ∙ ap (λ (l : List ℕ). (take written out ++ bytes) ++ l) (past k);
+    }
 
     -- nothing more is written
-    pub no_more : course ((length out0 - written) / 4) rest ≡ stopped → Ran P K o c0 t0 out0 (length t0 - length rest) written out c
-    no_more end =
+    pub no_more : Plays K o c rest (length out0 - written) [] [] 0 c → Ran K o c0 t0 out0 (length t0 - length rest) written out c
+    no_more p =
         let z : written + 0 ≡ written = omega arith in
-        let wrote : out ≡ take written out ++ drop (written + 0) out = sym (take-append-drop written out) ∙ ap (λ (n : ℕ). take written out ++ drop n out) (sym z) in
-        subst (λ (n : ℕ). Ran P K o c0 t0 out0 (length t0 - length rest) n out c) z (finish false out end wrote)
+        let told : out ≡ take written out ++ drop (written + 0) out = sym (take-append-drop written out) ∙ ap (λ (n : ℕ). take written out ++ drop n out) (sym z) in
+        subst (λ (k : ℕ). Ran K o c0 t0 out0 (length t0 - length rest) k out c) z (finish [] out 0 p refl told)
+
+  pub plays_bad : (c : Chip) (t : List ℕ) (room : ℕ) → 4 ≤ room → 0 < length t → first t ≡ None → Plays K o c t room [] bad_bytes 0 c
+  plays_bad c (b ∷ t) room h l e = bad h e
+  plays_bad c [] room h l e = absurd (omega arith)
+
+  pub plays_ended : (c : Chip) (t : List ℕ) (room : ℕ) → length t ≡ 0 → Plays K o c t room [] [] 0 c
+  plays_ended c [] room e = ended
+  plays_ended c (b ∷ t) room e = absurd (omega arith)

@@ -1,4 +1,3 @@
 pub mod Results
-pub mod Course
-pub mod Ran
+pub mod Played
 pub mod Memory

@@ -1,6 +1,5 @@
 -- The four result bytes of a record. Assumes nothing.
 use Rattle.std.specs.Prelude.{ℕ, ◌/◌, ◌%◌, List, [], ◌∷◌, ◌++◌, Ok, Err}
-use Rattle.refusals.specs.declared.Refusal.{Refusal}
 use Rattle.refusals.specs.Numbers.{number}
 use Rattle.rules.specs.Answering.{Answer}
 
@@ -11,7 +10,7 @@ result_bytes (Err why) = 110 ∷ 111 ∷ number why ∷ 0 ∷ []
 
 -- of a bad record: `no`, 14, 0
 abbrev pub bad_bytes : List ℕ
-bad_bytes = result_bytes (Err Refusal.BadRecord)
+bad_bytes = 110 ∷ 111 ∷ 14 ∷ 0 ∷ []
 
 -- of answers, one after the other
 abbrev pub all_results : List Answer → List ℕ

@@ -1,15 +1,12 @@
 // A run on the caller's own memory: what its slices hold once the chip and its array are gone.
-ghost use Rattle.std.specs.Prelude.{◌≡◌, ◌/◌, map, length};
+ghost use Rattle.std.specs.Prelude.{◌≡◌, map};
 ghost use Rattle.words.specs.Kind.{Kind};
-ghost use Rattle.arrays.specs.Rest.{OfMake};
-ghost use Rattle.runner.specs.Course.{AcceptedIsPlayed};
 ghost use Rattle.runner.specs.Memory.{RanOver, RanFlat, RanNew};
 
 use crate::running::run;
-use arrays::CellArray;
+use arrays::{CellArray, FlatArray, flat};
 use chip::Chip;
-use device::control::Opening;
-use flat::{FlatArray, array};
+use rules::control::Opening;
 use words::Word;
 
 // Opens a chip over a lent array, and runs the trace.
@@ -19,8 +16,7 @@ fn run_lent<A: CellArray>(
     trace: &[u8],
     results: &mut [u8],
 ) -> (usize, usize)
-    ensures ran { RanOver (OfMake meaning rest (rest array.old)) A.Stored.Word.kind opening (meaning array.old) trace.now results.old result.0 result.1 results.new (meaning array.new) }
-    ensures accepted { AcceptedIsPlayed (length results.old / 4) trace.now }
+    ensures ran { RanOver A.Stored.Word.kind opening (meaning array.old) trace.now results.old result.0 result.1 results.new (meaning array.new) }
     ensures rest { rest array.new ≡ rest array.old }
 {
     let mut chip = Chip::open(opening, array);
@@ -37,7 +33,6 @@ fn run_flat<W: Word>(
     ensures words_kept { array.new.words.ghost_name ≡ array.old.words.ghost_name }
     ensures counts_kept { array.new.counts.ghost_name ≡ array.old.counts.ghost_name }
     ensures ran { RanFlat kind opening array.old.columns (map code array.old.words.now) array.old.counts.now trace.now results.old result.0 result.1 results.new (map code array.new.words.now) array.new.counts.now }
-    ensures accepted { AcceptedIsPlayed (length results.old / 4) trace.now }
 {
     run_lent(opening, array, trace, results)
 }
@@ -50,11 +45,10 @@ pub fn run_on_memory<W: Word>(
     trace: &[u8],
     results: &mut [u8],
 ) -> (usize, usize)
-    ensures ran { RanNew kind opening (map code words.old) counts.old trace.now results.old result.0 result.1 results.new (map code words.new) counts.new }
-    ensures accepted { AcceptedIsPlayed (length results.old / 4) trace.now }
+    ensures { RanNew kind opening (map code words.old) counts.old trace.now results.old result.0 result.1 results.new (map code words.new) counts.new }
 {
     let columns = opening.part.columns() as usize;
-    array::erase(words, counts, columns);
+    flat::erase(words, counts, columns);
     let mut array = FlatArray {
         words,
         counts,

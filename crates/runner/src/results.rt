@@ -1,6 +1,6 @@
 // The result of a record: four bytes at a place of the results.
 ghost use Rattle.std.specs.Prelude.{◌≡◌, ℕ, ◌+◌, ◌≤◌, ◌++◌, length, take, drop};
-ghost use Rattle.runner.specs.Results.{result_bytes};
+ghost use Rattle.runner.specs.Results.{result_bytes, bad_bytes};
 
 use refusals::Refusal;
 
@@ -28,5 +28,15 @@ pub(crate) fn tell(results: &mut [u8], written: usize, answer: Result<u16, Refus
     ensures told { results.new ≡ take written results.old ++ (result_bytes answer ++ drop (written + 4) results.old) }
 {
     put(results, written, bytes_of(answer));
+    written + 4
+}
+
+// Tells that a record is bad.
+pub(crate) fn tell_bad(results: &mut [u8], written: usize) -> usize
+    requires { written + 4 ≤ length results.old }
+    ensures count { result ≡ written + 4 }
+    ensures told { results.new ≡ take written results.old ++ (bad_bytes ++ drop (written + 4) results.old) }
+{
+    put(results, written, bytes_of(Err(Refusal::BadRecord)));
     written + 4
 }

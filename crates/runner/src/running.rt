@@ -1,16 +1,13 @@
 // The run of a trace on a chip.
-ghost use Rattle.std.specs.Prelude.{◌≡◌, ℕ, ◌+◌, ◌-◌, ◌/◌, ◌≤◌, not, ◌&&◌, ◌++◌, length, take, drop, ◌==◌, nat_le};
-ghost use Rattle.arrays.specs.Rest.{OfMake};
+ghost use Rattle.std.specs.Prelude.{◌≡◌, ℕ, ◌+◌, ◌-◌, ◌≤◌, not, ◌&&◌, ◌++◌, length, take, drop, ◌==◌, nat_le};
 ghost use Rattle.chip.specs.Calls.{seen};
 ghost use Rattle.runner.specs.Results.{bad_bytes};
-ghost use Rattle.runner.specs.Course.{AcceptedIsPlayed};
-ghost use Rattle.runner.specs.Ran.{Ran};
+ghost use Rattle.runner.specs.Played.{Ran, AcceptedIsPlayed};
 
 use crate::results;
 use arrays::CellArray;
 use chip::Chip;
 use records::reader::first_record;
-use refusals::Refusal;
 
 // Whether one more record is looked at: some of the trace is left, and room for a result.
 fn goes_on(rest: &[u8], room: usize) -> bool
@@ -27,15 +24,15 @@ fn stop_at_bad(trace: &[u8], rest: &[u8], results: &mut [u8], written: usize) ->
     ensures count { result.1 ≡ written + 4 }
     ensures told { results.new ≡ take written results.old ++ (bad_bytes ++ drop (written + 4) results.old) }
 {
-    let after = results::tell(results, written, Err(Refusal::BadRecord));
+    let after = results::tell_bad(results, written);
     (trace.len() - rest.len(), after)
 }
 
 // Plays the records of a trace one after another, until the trace ends, a record is bad, or no room is left for one more result.
 // How many bytes of the trace were used, and how many result bytes written.
 pub fn run<A: CellArray>(chip: &mut Chip<A>, trace: &[u8], results: &mut [u8]) -> (usize, usize)
-    ensures ran { Ran (OfMake meaning rest (rest chip.old.array)) A.Stored.Word.kind chip.old.opening (seen meaning chip.old) trace.now results.old result.0 result.1 results.new (seen meaning chip.new) }
-    ensures accepted { AcceptedIsPlayed (length results.old / 4) trace.now }
+    ensures ran { Ran A.Stored.Word.kind chip.old.opening (seen meaning chip.old) trace.now results.old result.0 result.1 results.new (seen meaning chip.new) }
+    ensures accepted { AcceptedIsPlayed A.Stored.Word.kind chip.old.opening (seen meaning chip.old) trace.now results.old result.0 result.1 results.new (seen meaning chip.new) }
     ensures rest { rest chip.new.array ≡ rest chip.old.array }
     ensures opening { chip.new.opening ≡ chip.old.opening }
 {

@@ -1,38 +1,42 @@
-// Plays traces, each on a new chip, and says whether the chips end equal in all cells.
-// usage: sameimage FILE FILE.. [PART] [BLOCKS]
+// Plays two traces, each on a new chip, and says whether the two chips end equal in all cells.
 mod report;
 mod settings;
 mod sides;
 
-use device::part::Part;
+use anyhow::anyhow;
+use rules::part::Part;
 use settings::{Settings, take_settings};
-use sides::{Build, compare_sides, read_file};
+use sides::{compare_sides, read_file};
 use std::env;
-
-const USAGE: &str = "give two trace files or more: sameimage FILE FILE.. [PART] [BLOCKS]";
 
 // Compares the first trace with each of the others.
 fn compare_all(rt: &HostRuntime, names: &[String], settings: Settings) -> anyhow::Result<()> {
     let Some((first, others)) = names.split_first() else {
-        return Err(USAGE.into());
+        return Err(anyhow!("give two trace files"));
     };
     if others.is_empty() {
-        return Err(USAGE.into());
+        return Err(anyhow!("give two trace files"));
     }
     let trace = read_file(rt, first.as_str())?;
     for name in others {
         let other_trace = read_file(rt, name.as_str())?;
-        let one = Build {
-            name: first.as_str(),
-            trace: trace.as_slice(),
-        };
-        let other = Build {
-            name: name.as_str(),
-            trace: other_trace.as_slice(),
-        };
         match settings.part {
-            Part::K9K1216 => compare_sides::<u16>(rt, settings, one, other)?,
-            Part::K9K1208 | Part::K9F2808 => compare_sides::<u8>(rt, settings, one, other)?,
+            Part::K9K1216 => compare_sides::<u16>(
+                rt,
+                settings,
+                first.as_str(),
+                trace.as_slice(),
+                name.as_str(),
+                other_trace.as_slice(),
+            )?,
+            Part::K9K1208 | Part::K9F2808 => compare_sides::<u8>(
+                rt,
+                settings,
+                first.as_str(),
+                trace.as_slice(),
+                name.as_str(),
+                other_trace.as_slice(),
+            )?,
         }
     }
     Ok(())

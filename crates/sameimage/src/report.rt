@@ -1,7 +1,8 @@
 // What is printed of a comparison.
+use crate::settings::Settings;
 use arrays::CellArray;
 use compare::answers::count_answers;
-use compare::cells::{apart_in_block, block_count, first_difference};
+use compare::cells::{apart_in_block, first_difference};
 use compare::compare::Comparison;
 use refusals::Refusal;
 use std::io;
@@ -10,7 +11,7 @@ fn side(rt: &HostRuntime, name: &str, answers: &[Result<u16, Refusal>]) -> io::R
     let tally = count_answers(answers);
     let taken = tally.taken;
     let refused = tally.refused;
-    println!(rt; "{name}: calls taken {taken}, refused {refused}")
+    println!(rt; "{name}: {taken} calls taken, {refused} refused")
 }
 
 pub fn answers(
@@ -28,36 +29,34 @@ pub fn answers(
     }
 }
 
-pub fn equal<A: CellArray>(rt: &HostRuntime, array: &A) -> io::Result<()> {
-    let blocks = array.blocks();
-    println!(rt; "  the chips are equal in all cells: {blocks} blocks")
+pub fn equal(rt: &HostRuntime, settings: Settings) -> io::Result<()> {
+    let blocks = settings.blocks;
+    println!(rt; "  the chips are equal in all cells of {blocks} blocks")
 }
 
 // Where the chips first differ, and how many words differ in which blocks.
 pub fn different<A: CellArray, B: CellArray>(
     rt: &HostRuntime,
-    columns: u16,
+    settings: Settings,
     one: &A,
     other: &B,
 ) -> io::Result<()> {
-    println!(rt; "  the chips differ")?;
-    let Some(blocks) = block_count(one) else {
-        return Ok(());
-    };
-    if let Some(place) = first_difference(one, other, blocks, columns as usize) {
+    let columns = settings.part.columns();
+    println!(rt; "  the chips are not equal in all cells")?;
+    if let Some(place) = first_difference(one, other, settings.blocks, columns as usize) {
         let block = place.row / 32;
         let page = place.row % 32;
         let column = place.column;
         let code = place.code;
         let other_code = place.other_code;
         println!(rt;
-            "  first at block {block}, page {page}, column {column}: {code:02X}h and {other_code:02X}h"
+            "  they differ first at block {block}, page {page}, column {column}: {code:02X}h and {other_code:02X}h"
         )?;
     }
-    for block in 0..blocks {
+    for block in 0..settings.blocks {
         let apart = apart_in_block(one, other, block, columns);
         if apart > 0 {
-            println!(rt; "  block {block}: words that differ: {apart}")?;
+            println!(rt; "  block {block}: {apart} words differ")?;
         }
     }
     Ok(())

@@ -1,36 +1,20 @@
 // Two new chips, a trace on each, and what came of it.
-ghost use Rattle.std.specs.Prelude.{◌≡◌};
-ghost use Rattle.sameimage.specs.Chosen.{opening_of};
-
 use crate::report;
 use crate::settings::Settings;
 use anyhow::anyhow;
-use arrays::CellArray;
-use compare::builds::{Builds, compare_builds};
+use arrays::{CellArray, FlatArray};
+use chip::Chip;
 use compare::error::{CompareError, Side};
-use device::control::Opening;
-use device::part::Part;
+use compare::traces::compare_traces;
 use records::error::TraceError;
+use rules::control::Opening;
 use std::fs;
 use words::Word;
 
-// A build: the name of its file, and its trace.
-#[derive(Clone, Copy)]
-pub struct Build<'a> {
-    pub name: &'a str,
-    pub trace: &'a [u8],
-}
+// The device code and the limit of programs a page, alike on both sides.
+const DEVICE: u8 = 0x76;
 
-// What both chips are opened with: device code 76h, and three programs to a page.
-fn opening_of(part: Part) -> Opening
-    ensures { result ≡ opening_of part }
-{
-    Opening {
-        part,
-        device: 0x76,
-        limit: 3,
-    }
-}
+const LIMIT: u8 = 3;
 
 pub fn read_file(rt: &HostRuntime, name: &str) -> anyhow::Result<Vec<u8>> {
     match fs::read(rt, name) {
@@ -67,75 +51,44 @@ fn message(
     }
 }
 
-// Prints what came of two builds.
-fn tell<W: Word>(
-    rt: &HostRuntime,
-    columns: u16,
-    one: Build,
-    other: Build,
-    builds: &Builds<W>,
-) -> anyhow::Result<()> {
-    if builds.one.check().is_err() {
-        return Err(anyhow!("the chip is dead: the part does not fit its words and memory"));
-    }
-    report::answers(rt, one.name, other.name, &builds.comparison)?;
-    if builds.comparison.cells_equal {
-        report::equal(rt, builds.one.array())?;
-    } else {
-        report::different(rt, columns, builds.one.array(), builds.other.array())?;
-    }
-    Ok(())
-}
-
-// Plays each trace on a new chip over the memory, both opened alike.
-fn compare_over<W: Word>(
-    rt: &HostRuntime,
-    part: Part,
-    one: Build,
-    words: &mut [W],
-    counts: &mut [u8],
-    other: Build,
-    other_words: &mut [W],
-    other_counts: &mut [u8],
-) -> anyhow::Result<()> {
-    let compared = compare_builds(
-        rt.alloc(),
-        opening_of(part),
-        words,
-        counts,
-        one.trace,
-        other_words,
-        other_counts,
-        other.trace,
-    );
-    match compared {
-        Err(error) => Err(message(rt, one.name, other.name, error)?),
-        Ok(builds) => tell(rt, part.columns(), one, other, &builds),
-    }
-}
-
-// Makes memory for both chips, and compares the builds over it.
 pub fn compare_sides<W: Word + Clone>(
     rt: &HostRuntime,
     settings: Settings,
-    one: Build,
-    other: Build,
+    name: &str,
+    trace: &[u8],
+    other_name: &str,
+    other_trace: &[u8],
 ) -> anyhow::Result<()> {
     let heap = rt.alloc();
+    let columns = settings.part.columns() as usize;
     let rows = 32 * settings.blocks as usize;
-    let size = rows * settings.part.columns() as usize;
-    let mut words = vec![in heap; W::erased(); size]?;
+    let opening = Opening {
+        part: settings.part,
+        device: DEVICE,
+        limit: LIMIT,
+    };
+    let mut words = vec![in heap; W::erased(); rows * columns]?;
     let mut counts = vec![in heap; 0u8; rows]?;
-    let mut other_words = vec![in heap; W::erased(); size]?;
+    let mut other_words = vec![in heap; W::erased(); rows * columns]?;
     let mut other_counts = vec![in heap; 0u8; rows]?;
-    compare_over(
-        rt,
-        settings.part,
-        one,
-        words.as_mut_slice(),
-        counts.as_mut_slice(),
-        other,
+    let array = FlatArray::new(words.as_mut_slice(), counts.as_mut_slice(), columns);
+    let other_array = FlatArray::new(
         other_words.as_mut_slice(),
         other_counts.as_mut_slice(),
-    )
+        columns,
+    );
+    let mut one = Chip::open(opening, array);
+    let mut other = Chip::open(opening, other_array);
+    match compare_traces(heap, &mut one, trace, &mut other, other_trace) {
+        Err(error) => Err(message(rt, name, other_name, error)?),
+        Ok(comparison) => {
+            report::answers(rt, name, other_name, &comparison)?;
+            if comparison.cells_equal {
+                report::equal(rt, settings)?;
+            } else {
+                report::different(rt, settings, one.array(), other.array())?;
+            }
+            Ok(())
+        }
+    }
 }

@@ -51,7 +51,7 @@ pub fn bad_records(rt: &HostRuntime) -> io::Result<()> {
     read_case(rt, b"CM\x80ad\x00DO")
 }
 
-// The worked example of docs/traces.md with a stray byte, and with an unknown mark in its midst.
+// The worked example of the documents with a stray byte, and with an unknown mark in its midst.
 pub fn broken_example(rt: &HostRuntime) -> io::Result<()> {
     read_case(
         rt,

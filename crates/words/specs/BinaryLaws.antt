@@ -1,4 +1,4 @@
--- Proofs only: the laws of words whose cells are their bits, at every width up to 16. Assumes nothing.
+-- The laws of words whose cells are their bits, at every width up to 16. Assumes nothing.
 use Rattle.std.specs.Prelude.{◌≡◌, ℕ, ◌-◌, ◌%◌, ◌^◌, ◌<◌, ◌≤◌, true}
 use Rattle.std.proofs.Common.{arith, pow_mono, pow_pos}
 use Rattle.std.specs.Int.Bits.{bit_and, and_lt}

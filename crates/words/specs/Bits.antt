@@ -1,4 +1,4 @@
--- Proofs only: lemmas on the single bits of a number. Assumes nothing.
+-- Lemmas on the single bits of a number. Assumes nothing.
 use Rattle.std.specs.Prelude.{◌≡◌, ℕ, zero, suc, ◌+◌, ◌-◌, ◌*◌, ◌/◌, ◌%◌, ◌^◌, ◌<◌, ◌≤◌, min, max, refl}
 use Rattle.std.proofs.Common.{sym, ap, ◌∙◌, pow-suc, div-one, one-add, arith}
 use Rattle.std.proofs.Math.Nat.{zero-div}

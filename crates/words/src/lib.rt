@@ -1,6 +1,5 @@
 // Words of cells: what a stored word can do, and the three kinds of word.
 pub mod byte;
-pub mod codes;
 pub mod doubting;
 pub mod wide;
 pub mod word;

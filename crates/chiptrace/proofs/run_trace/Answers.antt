@@ -1,13 +1,12 @@
 use Rattle.std.proofs.Common.{◌∙◌}
 use Rattle.std.proofs.lemmas.List.{length-map}
-use Rattle.runner.proofs.Lents.{written_in}
-use Rattle.chiptrace.proofs.Fronts.{traced}
+use Rattle.chiptrace.proofs.Fronts.{opened_so, bounded, traced}
 use Rattle.chiptrace.proofs.run_trace.Goals as goal
 
 pub returns : goal.returns
 returns c =
-    let ran = c.run-on-memory-written.ensures.ran in
+    let over = opened_so _ _ _ _ _ _ _ _ _ _ c.opening.ensures c.run-on-memory-written.ensures in
     record {
-      bound = written_in ran;
-      traced = traced _ _ _ _ _ _ _ _ _ _ c.opening.ensures ran (length-map c.args.words.now _ ∙ c.requires.0) c.requires.1 c.requires.2;
+      bound = bounded _ _ _ _ _ _ _ _ over;
+      traced = traced _ _ _ _ _ _ _ _ over (length-map c.args.words.now _ ∙ c.requires.0) c.requires.1 c.requires.2;
     }

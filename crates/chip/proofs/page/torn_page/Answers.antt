@@ -1,7 +1,7 @@
 use Rattle.std.proofs.Common.{◌≡◌, ℕ, ◌+◌, ◌<◌, List, [], ◌∷◌, ◌++◌, map, length, get_or, take, set, sym, refl, ap, ◌∙◌, arith, length-set}
 use Rattle.std.proofs.lemmas.List.{length-replicate, take_more_set, map_more, take_all}
-use Rattle.device.specs.Parts.{columns}
-use Rattle.device.specs.Controls.{blank}
+use Rattle.rules.specs.Parts.{columns}
+use Rattle.rules.specs.Controls.{blank}
 use Rattle.chip.proofs.page.torn_page.Goals as goal
 
 pub loop-column-init : goal.loop-column-init

@@ -7,7 +7,7 @@ use Rattle.compare.proofs.compare.compare_calls.Goals as goal
 pub same-arrays-cells-equal-requires : goal.same-arrays-cells-equal-requires
 same-arrays-cells-equal-requires g c =
     let blocks = λ (a : g.row.A.Denot). (g.A.CellArray.meaning a).holds.shape.blocks in
-    c.in-Some.ensures ∙ (ap blocks c.array.ensures ∙ (sym (ap (λ s. s.blocks) (run_shape c.play-all-answers.ensures.played.run.run)) ∙ sym (ap blocks c.array-2.ensures)))
+    c.in-Some.ensures ∙ (ap blocks c.array.ensures ∙ (sym (ap (λ s. s.blocks) (run_shape c.play-all-answers.ensures.played.run)) ∙ sym (ap blocks c.array-2.ensures)))
 
 pub returns : goal.returns
 returns g c =

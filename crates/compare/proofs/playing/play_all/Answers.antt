@@ -1,26 +1,23 @@
 use Rattle.std.proofs.Common.{◌≡◌, ◌+◌, List, [], ◌∷◌, ◌++◌, length, get_or, take, vec_items, sym, refl, ap, ◌∙◌, subst, arith}
 use Rattle.std.proofs.lemmas.List.{take_more, take_all}
 use Rattle.records.specs.declared.call.Call.{Call}
-use Rattle.device.specs.declared.control.Opening.{Opening}
+use Rattle.rules.specs.declared.control.Opening.{Opening}
 use Rattle.rules.specs.Answering.{Answer}
-use Rattle.rules.specs.Running.{Step}
-use Rattle.rules.proofs.Snocs.{in_none}
-use Rattle.arrays.specs.Rest.{OfMake}
+use Rattle.rules.specs.Running.{Step, stop}
 use Rattle.chip.specs.Calls.{seen, event}
 use Rattle.compare.specs.Played.{Played}
 use Rattle.compare.proofs.Runs.{played_more}
 use Rattle.compare.proofs.playing.play_all.Goals as goal
 
 pub loop-call-init : goal.loop-call-init
-loop-call-init g c =
-    let P = OfMake g.A.CellArray.meaning g.A.CellArray.rest (g.A.CellArray.rest c.args.chip.now.array) in (
-      omega arith,
-      c.args.room.ok.0 ∙ ap length c.requires.empty,
-      c.requires.roomy,
-      refl,
-      refl,
-      record { events = []; run = in_none P (record { array = c.args.chip.now.array; means = refl; rests = refl }); its_calls = refl; its_answers = sym c.requires.empty },
-    )
+loop-call-init g c = (
+  omega arith,
+  c.args.room.ok.0 ∙ ap length c.requires.empty,
+  c.requires.roomy,
+  refl,
+  refl,
+  record { events = []; run = stop; its_calls = refl; its_answers = sym c.requires.empty },
+)
 
 pub loop-call-preserved : goal.loop-call-preserved
 loop-call-preserved g c =
@@ -34,22 +31,20 @@ loop-call-preserved g c =
     let o = c.args.chip.now.opening in
     let a = c.play-answer.result in
     let step = subst (λ (x : Opening). Step K x before (event K x before call a) after) c.loop-call.invariant.3 c.play-answer.ensures.step in
-    let P = OfMake g.A.CellArray.meaning g.A.CellArray.rest (g.A.CellArray.rest c.args.chip.now.array) in
-    let rest = c.play-answer.ensures.rest ∙ c.loop-call.invariant.4 in
-    let more = played_more P c.loop-call.invariant.5 (event K o before call a) step (record { array = c.play-answer.new.self.array; means = refl; rests = rest }) in (
+    let more = played_more c.loop-call.invariant.5 (event K o before call a) step in (
       omega arith,
       omega (arith, c.push-reserved.ensures.len),
       omega (arith, c.push-reserved.ensures.capacity),
       c.play-answer.ensures.opening ∙ c.loop-call.invariant.3,
-      rest,
-      subst (λ (cs : List Call). Played P K o (see c.args.chip.now) cs (vec_items c.push-reserved.new.self) after)
+      c.play-answer.ensures.rest ∙ c.loop-call.invariant.4,
+      subst (λ (cs : List Call). Played K o (see c.args.chip.now) cs (vec_items c.push-reserved.new.self) after)
           (sym (take_more calls i (Call.Command 0) c.loop-call-test.true))
-          (subst (λ (xs : List Answer). Played P K o (see c.args.chip.now) (take i calls ++ call ∷ []) xs after) (sym c.push-reserved.ensures.items) more),
+          (subst (λ (xs : List Answer). Played K o (see c.args.chip.now) (take i calls ++ call ∷ []) xs after) (sym c.push-reserved.ensures.items) more),
     )
 
 pub returns : goal.returns
 returns g c = record {
-  played = subst (λ (cs : List Call). Played (OfMake g.A.CellArray.meaning g.A.CellArray.rest (g.A.CellArray.rest c.args.chip.now.array)) g.Stored.Word.kind c.args.chip.now.opening (seen g.A.CellArray.meaning c.args.chip.now) cs
+  played = subst (λ (cs : List Call). Played g.Stored.Word.kind c.args.chip.now.opening (seen g.A.CellArray.meaning c.args.chip.now) cs
       (vec_items c.loop-call.answers) (seen g.A.CellArray.meaning c.loop-call.chip))
       (take_all c.loop-call.call-index c.args.calls.now c.loop-call-test.false) c.loop-call.invariant.5;
   rest = c.loop-call.invariant.4;

@@ -1,5 +1,4 @@
 use Rattle.std.proofs.Common.{◌≡◌, ◌≤◌, length, take, vec_items, vec_len, vec_capacity}
-use Rattle.arrays.specs.Rest.{OfMake}
 use Rattle.chip.specs.Calls.{seen}
 use Rattle.compare.specs.Played.{Played}
 use Rattle.compare.proofs.playing.play_all.Given as goal
@@ -10,5 +9,5 @@ invariant-loop-call g l = (l.call-index ≤ length l.calls)
     × (length l.calls ≤ vec_capacity l.answers)
     × (l.chip.opening ≡ l.initial.chip.opening)
     × (g.A.CellArray.rest l.chip.array ≡ g.A.CellArray.rest l.initial.chip.array)
-    × Played (OfMake g.A.CellArray.meaning g.A.CellArray.rest (g.A.CellArray.rest l.initial.chip.array)) g.Stored.Word.kind l.initial.chip.opening (seen g.A.CellArray.meaning l.initial.chip)
+    × Played g.Stored.Word.kind l.initial.chip.opening (seen g.A.CellArray.meaning l.initial.chip)
     (take l.call-index l.calls) (vec_items l.answers) (seen g.A.CellArray.meaning l.chip)

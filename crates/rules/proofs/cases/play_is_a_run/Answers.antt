@@ -1,4 +1,4 @@
-use Rattle.rules.proofs.Played.{play_is_a_run}
+use Rattle.rules.proofs.Benches.{play_is_a_run}
 use Rattle.rules.proofs.cases.play_is_a_run.Goals as goal
 
 pub returns : goal.returns

@@ -1,9 +1,7 @@
-use Rattle.std.proofs.Common.{◌≡◌, ℕ, map, refl, subst}
-use Rattle.arrays.specs.Meaning.{Meaning, always_willing}
-use Rattle.flat.specs.Flat.{flat}
-use Rattle.flat.proofs.Rests.{same_words_name, same_counts_name, same_columns, rest_beyond}
+use Rattle.std.proofs.Common.{ℕ, map, subst}
+use Rattle.arrays.specs.Flat.{flat}
+use Rattle.arrays.proofs.Rests.{same_words_name, same_counts_name, same_columns, rest_beyond}
 use Rattle.runner.specs.Memory.{RanOver}
-use Rattle.runner.proofs.Lents.{ran_map, Flat, flat_ran}
 use Rattle.runner.proofs.job.run_flat.Goals as goal
 
 pub returns : goal.returns
@@ -14,17 +12,13 @@ returns g c =
     let old = c.args.array.now in
     let new = c.run-lent.new.array in
     let e = c.run-lent.ensures.rest in
-    let over = c.run-lent.ensures.ran in
-    let always : Meaning → Type 0 = λ m. m ≡ always_willing m.holds in
     record {
       words_kept = same_words_name _ _ _ _ _ _ _ _ _ _ e;
       counts_kept = same_counts_name _ _ _ _ _ _ _ _ _ _ e;
-      ran = flat_ran K o old.columns (map f old.words.now) old.counts.now c.args.trace.now c.args.results.now c.run-lent.result.0 c.run-lent.result.1
-          c.run-lent.new.results (map f new.words.now) new.counts.now
-          (subst (λ (n : ℕ). RanOver always K o (flat K old.columns (map f old.words.now) old.counts.now) c.args.trace.now c.args.results.now
-          c.run-lent.result.0 c.run-lent.result.1 c.run-lent.new.results (flat K n (map f new.words.now) new.counts.now))
-          (same_columns _ _ _ _ _ _ _ _ _ _ e)
-          (record { control = over.control; ran = ran_map _ always (λ m w. subst always w.means refl) over.ran }))
-          (rest_beyond _ _ _ _ _ _ (map f old.words.now) old.counts.now (map f new.words.now) new.counts.now e);
-      accepted = c.run-lent.ensures.accepted;
+      ran = record {
+        inside = subst (λ (n : ℕ). RanOver K o (flat K old.columns (map f old.words.now) old.counts.now) c.args.trace.now c.args.results.now
+            c.run-lent.result.0 c.run-lent.result.1 c.run-lent.new.results (flat K n (map f new.words.now) new.counts.now))
+            (same_columns _ _ _ _ _ _ _ _ _ _ e) c.run-lent.ensures.ran;
+        beyond = rest_beyond _ _ _ _ _ _ (map f old.words.now) old.counts.now (map f new.words.now) new.counts.now e;
+      };
     }

@@ -1,0 +1,16 @@
+use Rattle.std.proofs.Common.{map, length, sym, arith}
+use Rattle.std.proofs.lemmas.List.{length-map}
+use Rattle.std.proofs.lemmas.Bool.{ltb-true}
+use Rattle.arrays.proofs.Flats.{place_fits}
+use Rattle.arrays.proofs.flat.FlatArrayCellArray.code.Goals as goal
+
+pub code-at-requires : goal.code-at-requires
+code-at-requires g c =
+    let s = c.args.self.now in
+    let f = g.W.Word.code in
+    let inside = ltb-true _ _ (sym c.if-not-has-row.ensures) in
+    omega (
+      arith,
+      place_fits s.columns (length (map f s.words.now)) (length s.counts.now) c.args.row c.args.column (omega arith) (omega arith),
+      length-map s.words.now f,
+    )

@@ -1,0 +1,42 @@
+use Rattle.std.proofs.Common.{◌≡◌, ℕ, ◌*◌, ◌<◌, map, length, sym, subst, arith}
+use Rattle.std.proofs.lemmas.List.{length-map}
+use Rattle.std.proofs.lemmas.Bool.{and_from, and_parts, lt-ltb, ltb-true, eqb-true}
+use Rattle.arrays.specs.Flat.{flat_blocks, Joined}
+use Rattle.arrays.proofs.Asked.{accepted}
+use Rattle.arrays.proofs.Flats.{row_fits, flat_programmed}
+use Rattle.arrays.proofs.Rests.{rest_programmed}
+use Rattle.arrays.proofs.flat.FlatArrayCellArray.program.Goals as goal
+
+pub join-row-requires : goal.join-row-requires
+join-row-requires g c =
+    let s = c.args.self.now in
+    let f = g.W.Word.code in
+    let inside = ltb-true _ _ (sym c.if-not-has-row.ensures) in
+    let page = and_parts _ _ (sym c.if-not-is-page.ensures) in
+    record {
+      fits = omega (
+        arith,
+        row_fits s.columns (length (map f s.words.now)) (length s.counts.now) c.args.row (omega arith),
+        length-map s.words.now f,
+        eqb-true _ _ page.0,
+      );
+      lawful = page.1;
+    }
+
+pub returns : goal.returns
+returns g c =
+    let s = c.args.self.now in
+    let K = g.W.Word.kind in
+    let f = g.W.Word.code in
+    let cs = map f s.words.now in
+    let cs' = map f c.join-row.new.words in
+    let inside = ltb-true _ _ (sym c.if-not-has-row.ensures) in
+    let within : c.args.row < 32 * flat_blocks s.columns (length cs) (length s.counts.now) = omega arith in
+    let page = sym c.if-not-is-page.ensures in
+    let joined = subst (λ (m : ℕ). Joined K cs cs' (c.args.row * s.columns) c.args.codes.now m) (eqb-true _ _ (and_parts _ _ page).0) c.join-row.ensures in
+    record {
+      done = accepted K _ _ _ (and_from _ _ (lt-ltb c.args.row _ within) page)
+          (flat_programmed K s.columns cs cs' s.counts.now c.count-program.new.counts c.args.row c.args.codes.now c.args.closes within joined c.count-program.ensures);
+      rest = rest_programmed K s.words.name s.counts.ghost_name s.columns cs cs' s.counts.now c.count-program.new.counts c.args.row _ c.args.codes.now
+          within joined c.count-program.ensures;
+    }

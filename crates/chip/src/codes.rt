@@ -1,0 +1,28 @@
+// What a word kind says of codes.
+ghost use Rattle.std.specs.Prelude.{◌≡◌};
+ghost use Rattle.words.specs.Kind.{Kind};
+
+use words::Word;
+
+// The code of an erased word.
+pub fn erased_code<W: Word>() -> u16
+    ensures { result ≡ kind.erased }
+{
+    W::erased().to_code()
+}
+
+// The code that an interrupted erase leaves.
+pub fn torn_erase_code<W: Word>() -> u16
+    ensures { result ≡ kind.torn_erase }
+{
+    W::torn_erase().to_code()
+}
+
+pub fn is_lawful<W: Word>(code: u16) -> bool
+    ensures { result ≡ kind.lawful code }
+{
+    match W::from_code(code) {
+        Ok(_) => true,
+        Err(_) => false,
+    }
+}
