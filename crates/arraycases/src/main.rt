@@ -1,4 +1,6 @@
 // Arrays of every make: flat arrays over memory of many lengths, defect arrays and stacks.
+#![tactic(auto)]
+
 mod flat_cases;
 mod stack_cases;
 

@@ -1,4 +1,6 @@
 // Arrays of cells: the trait that says what every array does, and the arrays themselves.
+#![tactic(auto)]
+
 pub mod cell_array;
 pub mod defect;
 mod defect_list;

@@ -1,4 +1,5 @@
 // Plays the bench cases on running chips, shows what they answer, and checks it.
+#![tactic(auto)]
 
 mod byte_cases;
 mod defect_cases;

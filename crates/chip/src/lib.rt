@@ -1,4 +1,6 @@
 // A chip over any array of cells: the seven calls, and the call that plays one of them.
+#![tactic(auto)]
+
 ghost use Rattle.std.specs.Prelude.{◌≡◌};
 ghost use Rattle.arrays.specs.Meaning.{Meaning};
 ghost use Rattle.rules.specs.Answering.{is_dead, unless, done};

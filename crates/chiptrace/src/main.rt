@@ -1,4 +1,6 @@
 // Runs a trace from the standard input on a new K9K1208 of two blocks, and prints the result bytes.
+#![tactic(auto)]
+
 ghost use Rattle.std.specs.Prelude.{◌≡◌, ℕ, ◌≤◌, length, take};
 ghost use Rattle.chiptrace.specs.Traced.{Traced, opening};
 

@@ -1,4 +1,6 @@
 // Comparing two chips: what each was told, what it answered, and what its cells hold then.
+#![tactic(auto)]
+
 pub mod answers;
 pub mod cells;
 pub mod compare;

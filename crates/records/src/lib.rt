@@ -1,4 +1,6 @@
 // Traces: the seven calls on a chip as records of bytes.
+#![tactic(auto)]
+
 pub mod call;
 pub mod error;
 pub mod flaws;

@@ -1,4 +1,6 @@
 // Why a call was refused: one enum for the whole project, and the number of each refusal.
+#![tactic(auto)]
+
 ghost use Rattle.std.specs.Prelude.{◌≡◌, ℕ, ◌≤◌};
 ghost use Rattle.refusals.specs.Numbers.{number};
 

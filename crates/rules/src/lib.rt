@@ -1,4 +1,6 @@
 // The rules of the chips: the types they speak of, their definitions, and the laws over runs of calls.
+#![tactic(auto)]
+
 pub mod cases;
 pub mod command;
 pub mod conduct;

@@ -1,6 +1,8 @@
 // Plays traces from the standard input, each on a new chip of two blocks, and says what each comes to.
 // A line is a part, a limit, the room for result bytes, and the trace: `.CM` stands for the two letters, `80` for a byte.
 // A line that begins with # is printed as it is.
+#![tactic(auto)]
+
 use rules::control::Opening;
 use rules::part::Part;
 use runner::job::run_on_memory;

@@ -1,4 +1,6 @@
 // Plays two traces, each on a new chip, and says whether the two chips end equal in all cells.
+#![tactic(auto)]
+
 mod report;
 mod settings;
 mod sides;

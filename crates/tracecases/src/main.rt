@@ -1,4 +1,6 @@
 // Small traces, read and written: each line says what came out, for the gate to compare.
+#![tactic(auto)]
+
 mod reads;
 mod writes;
 

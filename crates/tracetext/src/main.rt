@@ -1,4 +1,5 @@
 // Prints a trace from standard input, one record a line, and the verdict on it.
+#![tactic(auto)]
 
 mod line;
 mod verdict;

@@ -1,4 +1,6 @@
 // Every code of each word kind, and a spread of joins, held against levels that are computed cell by cell.
+#![tactic(auto)]
+
 mod reference;
 
 use reference::Reference;

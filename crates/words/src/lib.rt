@@ -1,4 +1,6 @@
 // Words of cells: what a stored word can do, and the three kinds of word.
+#![tactic(auto)]
+
 pub mod byte;
 pub mod doubting;
 pub mod wide;

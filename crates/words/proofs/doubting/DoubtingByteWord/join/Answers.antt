@@ -6,13 +6,13 @@ use Rattle.words.proofs.doubting.DoubtingByteWord.join.Goals as goal
 bytes : (x : DoubtingByte) → Apart x.erased x.doubtful
 bytes x = record { low = x.low; high = x.high; apart = x.apart }
 
-pub invariant-of-result : goal.invariant-of-result
-invariant-of-result c =
-    let made = c.joined-bytes-erased.ensures in
+pub invariant_of-result : goal.invariant_of-result
+invariant_of-result c =
+    let made = c.joined_bytes-erased.ensures in
     let a = apart_as made.erased made.doubtful (joined_apart _ _ _ _ (bytes c.args.self) (bytes c.args.other)) in
-    (a.low, (a.high, (a.apart, tt)))
+    record { low = a.low; high = a.high; apart = a.apart }
 
 pub returns : goal.returns
 returns c =
-    let made = c.joined-bytes-erased.ensures in
+    let made = c.joined_bytes-erased.ensures in
     joined_code _ _ _ _ (bytes c.args.self) (bytes c.args.other) made.erased made.doubtful

@@ -3,16 +3,16 @@ use Rattle.std.proofs.Common.{refl}
 use Rattle.words.specs.DoubtingLaws.{Apart, apart_as, torn_apart, torn_code, torn_doubts}
 use Rattle.words.proofs.doubting.DoubtingByteWord.torn.Goals as goal
 
-pub invariant-of-result : goal.invariant-of-result
-invariant-of-result c =
-    let a = apart_as refl c.torn-doubt.ensures (torn_apart c.args.self.erased c.args.self.low) in
-    (a.low, (a.high, (a.apart, tt)))
+pub invariant_of-result : goal.invariant_of-result
+invariant_of-result c =
+    let a = apart_as refl c.torn_doubt.ensures (torn_apart c.args.self.erased c.args.self.low) in
+    record { low = a.low; high = a.high; apart = a.apart }
 
 pub returns : goal.returns
 returns c =
     let s = c.args.self in
     let a : Apart s.erased s.doubtful = record { low = s.low; high = s.high; apart = s.apart } in
     record {
-      value = torn_code s.erased s.doubtful _ a c.torn-doubt.ensures;
-      doubted = torn_doubts s.erased s.doubtful _ a c.torn-doubt.ensures;
+      value = torn_code s.erased s.doubtful _ a c.torn_doubt.ensures;
+      doubted = torn_doubts s.erased s.doubtful _ a c.torn_doubt.ensures;
     }
