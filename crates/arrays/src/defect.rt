@@ -20,7 +20,7 @@ impl<A: CellArray> DefectArray<A> {
     pub fn new(below: A) -> Self
         ensures below { result.below ≡ below }
         ensures list { take result.list.used result.list.blocks ≡ [] }
-        ensures meaning { defect (meaning result.below) (take result.list.used result.list.blocks) ≡ defect (meaning below) [] }
+        ensures meaning { defect (A.meaning result.below) (take result.list.used result.list.blocks) ≡ defect (A.meaning below) [] }
     {
         DefectArray {
             below,
@@ -43,8 +43,8 @@ impl<A: CellArray> DefectArray<A> {
 
     // Lists a block. One outside the array is refused; one that is listed already is taken and changes nothing; then a full list refuses.
     pub fn list(&mut self, block: usize) -> Result<u16, Refusal>
-        ensures answer { result ≡ listing (meaning self.old.below).holds.shape.blocks (take self.old.list.used self.old.list.blocks) block }
-        ensures after { take self.new.list.used self.new.list.blocks ≡ list_after (meaning self.old.below).holds.shape.blocks (take self.old.list.used self.old.list.blocks) block }
+        ensures answer { result ≡ listing (A.meaning self.old.below).holds.shape.blocks (take self.old.list.used self.old.list.blocks) block }
+        ensures after { take self.new.list.used self.new.list.blocks ≡ list_after (A.meaning self.old.below).holds.shape.blocks (take self.old.list.used self.old.list.blocks) block }
         ensures below { self.new.below ≡ self.old.below }
     {
         if block >= self.below.blocks() {

@@ -19,9 +19,9 @@ pub struct FlatArray<'a, W> {
 
 // Erases every word of the shape that the memory has room for, and zeroes the counts of its rows.
 pub fn erase<W: Word>(words: &mut [W], counts: &mut [u8], columns: usize)
-    ensures erases { Put (map code words.old) (map code words.new) 0 (flat_blocks columns (length (map code words.old)) (length counts.old) * (32 * columns)) kind.erased }
-    ensures zeroes { Put counts.old counts.new 0 (32 * flat_blocks columns (length (map code words.old)) (length counts.old)) 0 }
-    ensures new { flat_contents kind columns (map code words.new) counts.new ≡ new_contents kind (flat_shape columns (map code words.old) counts.old) }
+    ensures erases { Put (map W.code words.old) (map W.code words.new) 0 (flat_blocks columns (length (map W.code words.old)) (length counts.old) * (32 * columns)) W.kind.erased }
+    ensures zeroes { Put counts.old counts.new 0 (32 * flat_blocks columns (length (map W.code words.old)) (length counts.old)) 0 }
+    ensures new { flat_contents W.kind columns (map W.code words.new) counts.new ≡ new_contents W.kind (flat_shape columns (map W.code words.old) counts.old) }
 {
     let n = memory::room(columns, words.len(), counts.len());
     // cut so that the product cannot overflow; where the columns are more there are no blocks
@@ -34,9 +34,9 @@ impl<'a, W: Word> FlatArray<'a, W> {
     // A new array over the memory: all that lies in its shape is erased, all else stays.
     pub fn new(words: &'a mut [W], counts: &'a mut [u8], columns: usize) -> Self
         ensures columns { result.columns ≡ columns }
-        ensures erases { Put (map code words.old) (map code result.words.now) 0 (flat_blocks columns (length (map code words.old)) (length counts.old) * (32 * columns)) kind.erased }
-        ensures zeroes { Put counts.old result.counts.now 0 (32 * flat_blocks columns (length (map code words.old)) (length counts.old)) 0 }
-        ensures new { flat kind result.columns (map code result.words.now) result.counts.now ≡ always_willing (new_contents kind (flat_shape columns (map code words.old) counts.old)) }
+        ensures erases { Put (map W.code words.old) (map W.code result.words.now) 0 (flat_blocks columns (length (map W.code words.old)) (length counts.old) * (32 * columns)) W.kind.erased }
+        ensures zeroes { Put counts.old result.counts.now 0 (32 * flat_blocks columns (length (map W.code words.old)) (length counts.old)) 0 }
+        ensures new { flat W.kind result.columns (map W.code result.words.now) result.counts.now ≡ always_willing (new_contents W.kind (flat_shape columns (map W.code words.old) counts.old)) }
     {
         erase(words, counts, columns);
         FlatArray {

@@ -35,7 +35,7 @@ pub struct Outcome {
 fn ask<W: Word>(array: &mut FlatArray<W>, page: PageProgram, fill: BlockFill) -> Outcome
     ensures words_kept { array.new.words.ghost_name ≡ array.old.words.ghost_name }
     ensures counts_kept { array.new.counts.ghost_name ≡ array.old.counts.ghost_name }
-    ensures done { AskedTwice kind array.old.columns (map code array.old.words.now) array.old.counts.now (programs page.entry.row page.entry.codes.now page.entry.closes) (fills fill.block fill.code) result.programmed result.filled (map code array.new.words.now) array.new.counts.now }
+    ensures done { AskedTwice W.kind array.old.columns (map W.code array.old.words.now) array.old.counts.now (programs page.entry.row page.entry.codes.now page.entry.closes) (fills fill.block fill.code) result.programmed result.filled (map W.code array.new.words.now) array.new.counts.now }
 {
     let programmed = array.program(page.row, page.codes, page.closes);
     let filled = array.fill(fill.block, fill.code);
@@ -50,7 +50,7 @@ pub fn program_then_fill<W: Word>(
     page: PageProgram,
     fill: BlockFill,
 ) -> Outcome
-    ensures { Job kind columns (map code words.old) counts.old (programs page.entry.row page.entry.codes.now page.entry.closes) (fills fill.block fill.code) result.programmed result.filled (map code words.new) counts.new }
+    ensures { Job W.kind columns (map W.code words.old) counts.old (programs page.entry.row page.entry.codes.now page.entry.closes) (fills fill.block fill.code) result.programmed result.filled (map W.code words.new) counts.new }
 {
     flat::erase(words, counts, columns);
     let mut array = FlatArray {

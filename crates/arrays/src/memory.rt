@@ -31,14 +31,14 @@ pub(crate) fn has_row(blocks: usize, row: usize) -> bool
 // The code of the word at a place.
 pub(crate) fn code_at<W: Word>(words: &[W], at: usize) -> u16
     requires { at < length words.now }
-    ensures { result ≡ slice_index (map code words.now) at }
+    ensures { result ≡ slice_index (map W.code words.now) at }
 {
     words[at].to_code()
 }
 
 // Whether every code is lawful.
 fn all_lawful<W: Word>(codes: &[u16]) -> bool
-    ensures { result ≡ all_lawful kind codes.now }
+    ensures { result ≡ all_lawful W.kind codes.now }
 {
     for code in codes {
         match W::from_code(*code) {
@@ -51,15 +51,15 @@ fn all_lawful<W: Word>(codes: &[u16]) -> bool
 
 // Whether the codes are a page: one for each column, and all lawful.
 pub(crate) fn is_page<W: Word>(codes: &[u16], columns: usize) -> bool
-    ensures { result ≡ (length codes.now == columns && all_lawful kind codes.now) }
+    ensures { result ≡ (length codes.now == columns && all_lawful W.kind codes.now) }
 {
     codes.len() == columns && all_lawful::<W>(codes)
 }
 
 // The word with a lawful code joined to it.
 fn joined<W: Word>(word: W, c: u16) -> W
-    requires { kind.lawful c ≡ true }
-    ensures { code result ≡ kind.join (code word) c }
+    requires { W.kind.lawful c ≡ true }
+    ensures { W.code result ≡ W.kind.join (W.code word) c }
 {
     match W::from_code(c) {
         Ok(other) => word.join(other),
@@ -70,8 +70,8 @@ fn joined<W: Word>(word: W, c: u16) -> W
 // Joins each code to the words from a place on.
 pub(crate) fn join_row<W: Word>(words: &mut [W], at: usize, codes: &[u16])
     requires fits { at + length codes.now ≤ length words.old }
-    requires lawful { all_lawful kind codes.now ≡ true }
-    ensures { Joined kind (map code words.old) (map code words.new) at codes.now (length codes.now) }
+    requires lawful { all_lawful W.kind codes.now ≡ true }
+    ensures { Joined W.kind (map W.code words.old) (map W.code words.new) at codes.now (length codes.now) }
 {
     for i in 0..codes.len() {
         words[at + i] = joined(words[at + i], codes[i]);
@@ -90,7 +90,7 @@ pub(crate) fn count_program(counts: &mut [u8], row: usize, closes: bool)
 // Puts a word at each of n places.
 fn put_words<W: Word>(words: &mut [W], at: usize, n: usize, word: W)
     requires { at + n ≤ length words.old }
-    ensures { Put (map code words.old) (map code words.new) at n (code word) }
+    ensures { Put (map W.code words.old) (map W.code words.new) at n (W.code word) }
 {
     for i in 0..n {
         words[at + i] = word;
@@ -112,7 +112,7 @@ pub(crate) fn put_first_blocks<W: Word>(words: &mut [W], n: usize, columns: usiz
     requires few { n ≤ 4096 }
     requires narrow { columns ≤ 4096 }
     requires fits { n * (32 * columns) ≤ length words.old }
-    ensures { Put (map code words.old) (map code words.new) 0 (n * (32 * columns)) (code word) }
+    ensures { Put (map W.code words.old) (map W.code words.new) 0 (n * (32 * columns)) (W.code word) }
 {
     put_words(words, 0, n * (32 * columns), word);
 }
@@ -129,7 +129,7 @@ pub(crate) fn zero_first_blocks(counts: &mut [u8], n: usize)
 pub(crate) fn put_block<W: Word>(words: &mut [W], block: usize, columns: usize, word: W)
     requires few { block < 4096 }
     requires fits { block * 32 * columns + 32 * columns ≤ length words.old }
-    ensures { Put (map code words.old) (map code words.new) (block * 32 * columns) (32 * columns) (code word) }
+    ensures { Put (map W.code words.old) (map W.code words.new) (block * 32 * columns) (32 * columns) (W.code word) }
 {
     put_words(words, block * 32 * columns, 32 * columns, word);
 }

@@ -46,7 +46,7 @@ pub fn refuses(call: Call, refusal: Refusal) -> Expected
 
 // Plays the call: whether the answer is the one expected. Then the step is one of the rules with that answer.
 fn plays<A: CellArray>(chip: &mut Chip<A>, expected: Expected) -> bool
-    ensures { result ≡ true → Step A.Stored.Word.kind chip.old.opening (seen meaning chip.old) (event A.Stored.Word.kind chip.old.opening (seen meaning chip.old) expected.call expected.answer) (seen meaning chip.new) }
+    ensures { result ≡ true → Step A.Stored.Word.kind chip.old.opening (seen A.meaning chip.old) (event A.Stored.Word.kind chip.old.opening (seen A.meaning chip.old) expected.call expected.answer) (seen A.meaning chip.new) }
 {
     let answer = chip.play(expected.call);
     same_answer(answer, expected.answer)

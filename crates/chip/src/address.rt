@@ -33,7 +33,7 @@ fn is_apart(a: u32, b: u32) -> bool
 impl<A: CellArray> Chip<A> {
     // The last cycle of a row.
     fn arrive(&mut self, aim: Aim, row: u32) -> Result<u16, Refusal>
-        ensures arrived { Arrived A.Stored.Word.kind self.old.opening (meaning self.old.array).holds self.old.control aim row result self.new.control }
+        ensures arrived { Arrived A.Stored.Word.kind self.old.opening (A.meaning self.old.array).holds self.old.control aim row result self.new.control }
         ensures array { self.new.array ≡ self.old.array }
         ensures opening { self.new.opening ≡ self.old.opening }
     {
@@ -98,7 +98,7 @@ impl<A: CellArray> Chip<A> {
 
     // A row cycle, after `taken` others that came to `row`.
     fn row_cycle(&mut self, aim: Aim, taken: u8, row: u32, byte: u8) -> Result<u16, Refusal>
-        ensures rowed { Rowed A.Stored.Word.kind self.old.opening (meaning self.old.array).holds self.old.control aim taken row byte result self.new.control }
+        ensures rowed { Rowed A.Stored.Word.kind self.old.opening (A.meaning self.old.array).holds self.old.control aim taken row byte result self.new.control }
         ensures array { self.new.array ≡ self.old.array }
         ensures opening { self.new.opening ≡ self.old.opening }
     {
@@ -118,7 +118,7 @@ impl<A: CellArray> Chip<A> {
 
     // An address cycle.
     pub fn address(&mut self, byte: u8) -> Result<u16, Refusal>
-        ensures called { Called A.Stored.Word.kind self.old.opening (seen meaning self.old) (Call.Address byte) result (seen meaning self.new) }
+        ensures called { Called A.Stored.Word.kind self.old.opening (seen A.meaning self.old) (Call.Address byte) result (seen A.meaning self.new) }
         ensures array { self.new.array ≡ self.old.array }
         ensures opening { self.new.opening ≡ self.old.opening }
     {

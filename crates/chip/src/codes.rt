@@ -6,20 +6,20 @@ use words::Word;
 
 // The code of an erased word.
 pub fn erased_code<W: Word>() -> u16
-    ensures { result ≡ kind.erased }
+    ensures { result ≡ W.kind.erased }
 {
     W::erased().to_code()
 }
 
 // The code that an interrupted erase leaves.
 pub fn torn_erase_code<W: Word>() -> u16
-    ensures { result ≡ kind.torn_erase }
+    ensures { result ≡ W.kind.torn_erase }
 {
     W::torn_erase().to_code()
 }
 
 pub fn is_lawful<W: Word>(code: u16) -> bool
-    ensures { result ≡ kind.lawful code }
+    ensures { result ≡ W.kind.lawful code }
 {
     match W::from_code(code) {
         Ok(_) => true,

@@ -26,7 +26,7 @@ fn rows_for(aim: Aim) -> State
 impl<A: CellArray> Chip<A> {
     // What a command does to the control; `landed` says whether the array did what FFh asked of it.
     fn cycle(&mut self, command: Option<Command>, landed: bool) -> Result<u16, Refusal>
-        ensures cycled { Cycled A.Stored.Word.kind self.old.opening (meaning self.old.array).holds landed self.old.control command result self.new.control }
+        ensures cycled { Cycled A.Stored.Word.kind self.old.opening (A.meaning self.old.array).holds landed self.old.control command result self.new.control }
         ensures array { self.new.array ≡ self.old.array }
         ensures opening { self.new.opening ≡ self.old.opening }
     {
@@ -144,8 +144,8 @@ impl<A: CellArray> Chip<A> {
 
     // A command cycle.
     pub fn command(&mut self, byte: u8) -> Result<u16, Refusal>
-        ensures called { Called A.Stored.Word.kind self.old.opening (seen meaning self.old) (Call.Command byte) result (seen meaning self.new) }
-        ensures rest { rest self.new.array ≡ rest self.old.array }
+        ensures called { Called A.Stored.Word.kind self.old.opening (seen A.meaning self.old) (Call.Command byte) result (seen A.meaning self.new) }
+        ensures rest { A.rest self.new.array ≡ A.rest self.old.array }
         ensures opening { self.new.opening ≡ self.old.opening }
     {
         if self.is_dead() {

@@ -11,7 +11,7 @@ use rules::state::State;
 impl<A: CellArray> Chip<A> {
     // A data cycle in: the word stands at the next column of the register.
     pub fn write(&mut self, code: u16) -> Result<u16, Refusal>
-        ensures called { Called A.Stored.Word.kind self.old.opening (seen meaning self.old) (Call.Write code) result (seen meaning self.new) }
+        ensures called { Called A.Stored.Word.kind self.old.opening (seen A.meaning self.old) (Call.Write code) result (seen A.meaning self.new) }
         ensures array { self.new.array ≡ self.old.array }
         ensures opening { self.new.opening ≡ self.old.opening }
     {
@@ -40,7 +40,7 @@ impl<A: CellArray> Chip<A> {
 
     // A data cycle out: a word of the page, the status, a code of the maker or a lock code.
     pub fn read(&mut self) -> Result<u16, Refusal>
-        ensures called { Called A.Stored.Word.kind self.old.opening (seen meaning self.old) Call.Read result (seen meaning self.new) }
+        ensures called { Called A.Stored.Word.kind self.old.opening (seen A.meaning self.old) Call.Read result (seen A.meaning self.new) }
         ensures array { self.new.array ≡ self.old.array }
         ensures opening { self.new.opening ≡ self.old.opening }
     {
@@ -83,7 +83,7 @@ impl<A: CellArray> Chip<A> {
 
     // The level of the write protect pin; low closes the open range and ends tight.
     pub fn protect(&mut self, level: u8) -> Result<u16, Refusal>
-        ensures called { Called A.Stored.Word.kind self.old.opening (seen meaning self.old) (Call.Protect level) result (seen meaning self.new) }
+        ensures called { Called A.Stored.Word.kind self.old.opening (seen A.meaning self.old) (Call.Protect level) result (seen A.meaning self.new) }
         ensures array { self.new.array ≡ self.old.array }
         ensures opening { self.new.opening ≡ self.old.opening }
     {
@@ -108,7 +108,7 @@ impl<A: CellArray> Chip<A> {
 
     // Shows a code of the array; nothing moves.
     pub fn look(&self, row: u32, column: u16) -> Result<u16, Refusal>
-        ensures { Called A.Stored.Word.kind self.now.opening (seen meaning self.now) (Call.Look row column) result (seen meaning self.now) }
+        ensures { Called A.Stored.Word.kind self.now.opening (seen A.meaning self.now) (Call.Look row column) result (seen A.meaning self.now) }
     {
         if self.is_dead() {
             return Err(Refusal::Dead);

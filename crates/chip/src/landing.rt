@@ -16,8 +16,8 @@ use rules::state::{State, Work};
 impl<A: CellArray> Chip<A> {
     // Lands an operation whole; whether the array did it.
     fn land(&mut self, work: Work) -> bool
-        ensures done { Performs A.Stored.Word.kind (asks_of A.Stored.Word.kind self.old.opening.part self.old.control.register.codes whole (Some work)) (meaning self.old.array) result (meaning self.new.array) }
-        ensures rest { rest self.new.array ≡ rest self.old.array }
+        ensures done { Performs A.Stored.Word.kind (asks_of A.Stored.Word.kind self.old.opening.part self.old.control.register.codes whole (Some work)) (A.meaning self.old.array) result (A.meaning self.new.array) }
+        ensures rest { A.rest self.new.array ≡ A.rest self.old.array }
         ensures control { self.new.control ≡ self.old.control }
         ensures opening { self.new.opening ≡ self.old.opening }
     {
@@ -34,8 +34,8 @@ impl<A: CellArray> Chip<A> {
 
     // Lands an operation that is cut off.
     fn land_torn(&mut self, work: Work) -> bool
-        ensures done { Performs A.Stored.Word.kind (asks_of A.Stored.Word.kind self.old.opening.part self.old.control.register.codes torn (Some work)) (meaning self.old.array) result (meaning self.new.array) }
-        ensures rest { rest self.new.array ≡ rest self.old.array }
+        ensures done { Performs A.Stored.Word.kind (asks_of A.Stored.Word.kind self.old.opening.part self.old.control.register.codes torn (Some work)) (A.meaning self.old.array) result (A.meaning self.new.array) }
+        ensures rest { A.rest self.new.array ≡ A.rest self.old.array }
         ensures control { self.new.control ≡ self.old.control }
         ensures opening { self.new.opening ≡ self.old.opening }
     {
@@ -53,8 +53,8 @@ impl<A: CellArray> Chip<A> {
 
     // FFh cuts off what is under way, all else leaves the array alone; whether the array did what it was asked.
     pub(crate) fn cut_off(&mut self, command: Option<Command>) -> bool
-        ensures ended { Ended A.Stored.Word.kind (asks_of A.Stored.Word.kind self.old.opening.part self.old.control.register.codes (cycle_ending command) (under self.old.control.state)) (meaning self.old.array) result (meaning self.new.array) }
-        ensures rest { rest self.new.array ≡ rest self.old.array }
+        ensures ended { Ended A.Stored.Word.kind (asks_of A.Stored.Word.kind self.old.opening.part self.old.control.register.codes (cycle_ending command) (under self.old.control.state)) (A.meaning self.old.array) result (A.meaning self.new.array) }
+        ensures rest { A.rest self.new.array ≡ A.rest self.old.array }
         ensures control { self.new.control ≡ self.old.control }
         ensures opening { self.new.opening ≡ self.old.opening }
     {
@@ -66,8 +66,8 @@ impl<A: CellArray> Chip<A> {
 
     // Waits until the operation under way has ended.
     pub fn settle(&mut self) -> Result<u16, Refusal>
-        ensures called { Called A.Stored.Word.kind self.old.opening (seen meaning self.old) Call.Settle result (seen meaning self.new) }
-        ensures rest { rest self.new.array ≡ rest self.old.array }
+        ensures called { Called A.Stored.Word.kind self.old.opening (seen A.meaning self.old) Call.Settle result (seen A.meaning self.new) }
+        ensures rest { A.rest self.new.array ≡ A.rest self.old.array }
         ensures opening { self.new.opening ≡ self.old.opening }
     {
         if self.is_dead() {

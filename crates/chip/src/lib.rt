@@ -60,7 +60,7 @@ impl<A: CellArray> Chip<A> {
 
     // Whether part, limit and array do not fit together.
     fn is_dead(&self) -> bool
-        ensures { result ≡ is_dead A.Stored.Word.kind self.now.opening (meaning self.now.array).holds.shape }
+        ensures { result ≡ is_dead A.Stored.Word.kind self.now.opening (A.meaning self.now.array).holds.shape }
     {
         let cells = <A::Stored as Word>::cells();
         let columns = self.array.columns();
@@ -71,7 +71,7 @@ impl<A: CellArray> Chip<A> {
 
     // Whether the chip can be used: 0, or a refusal.
     pub fn check(&self) -> Result<u16, Refusal>
-        ensures { result ≡ unless (is_dead A.Stored.Word.kind self.now.opening (meaning self.now.array).holds.shape) Refusal.Dead done }
+        ensures { result ≡ unless (is_dead A.Stored.Word.kind self.now.opening (A.meaning self.now.array).holds.shape) Refusal.Dead done }
     {
         if self.is_dead() {
             Err(Refusal::Dead)
@@ -82,8 +82,8 @@ impl<A: CellArray> Chip<A> {
 
     // The call of that name.
     fn dispatch(&mut self, call: Call) -> Result<u16, Refusal>
-        ensures called { Called A.Stored.Word.kind self.old.opening (seen meaning self.old) call result (seen meaning self.new) }
-        ensures rest { rest self.new.array ≡ rest self.old.array }
+        ensures called { Called A.Stored.Word.kind self.old.opening (seen A.meaning self.old) call result (seen A.meaning self.new) }
+        ensures rest { A.rest self.new.array ≡ A.rest self.old.array }
         ensures opening { self.new.opening ≡ self.old.opening }
     {
         match call {
@@ -99,8 +99,8 @@ impl<A: CellArray> Chip<A> {
 
     // Plays a call: one step of the rules.
     pub fn play(&mut self, call: Call) -> Result<u16, Refusal>
-        ensures step { Step A.Stored.Word.kind self.old.opening (seen meaning self.old) (event A.Stored.Word.kind self.old.opening (seen meaning self.old) call result) (seen meaning self.new) }
-        ensures rest { rest self.new.array ≡ rest self.old.array }
+        ensures step { Step A.Stored.Word.kind self.old.opening (seen A.meaning self.old) (event A.Stored.Word.kind self.old.opening (seen A.meaning self.old) call result) (seen A.meaning self.new) }
+        ensures rest { A.rest self.new.array ≡ A.rest self.old.array }
         ensures opening { self.new.opening ≡ self.old.opening }
     {
         self.dispatch(call)

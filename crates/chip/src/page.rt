@@ -10,7 +10,7 @@ use words::Word;
 
 // What an interrupted program of the register writes: the torn forms of its codes. The register stays as it is.
 pub fn torn_page<W: Word>(register: &PageRegister, part: Part) -> PageRegister
-    ensures { take (columns part) result.codes ≡ map kind.torn (take (columns part) register.now.codes) }
+    ensures { take (columns part) result.codes ≡ map W.kind.torn (take (columns part) register.now.codes) }
 {
     let mut cut = PageRegister::erased(codes::erased_code::<W>());
     let page = register.front(part);

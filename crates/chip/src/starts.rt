@@ -12,14 +12,14 @@ use rules::state::State;
 impl<A: CellArray> Chip<A> {
     // Whether the array has the row.
     pub(crate) fn has_row(&self, row: u32) -> bool
-        ensures { result ≡ nat_lt row (rows (meaning self.now.array).holds.shape) }
+        ensures { result ≡ nat_lt row (rows (A.meaning self.now.array).holds.shape) }
     {
         ((row / 32) as usize) < self.array.blocks()
     }
 
     // Whether the row has had as many programs as it may.
     pub(crate) fn is_full(&self, row: u32) -> bool
-        ensures { result ≡ is_full self.now.opening (meaning self.now.array).holds row }
+        ensures { result ≡ is_full self.now.opening (A.meaning self.now.array).holds row }
     {
         self.opening.limit <= self.array.count(row as usize)
     }

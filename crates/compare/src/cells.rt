@@ -119,7 +119,7 @@ pub fn same_shape<A: CellArray, B: CellArray>(one: &A, other: &B) -> bool
 
 // The number of blocks, where it is below 2^32.
 pub fn block_count<A: CellArray>(array: &A) -> Option<u32>
-    ensures { MatchOption result (2 ^ 32 ≤ (meaning array.now).holds.shape.blocks) (λ n. n ≡ (meaning array.now).holds.shape.blocks) }
+    ensures { MatchOption result (2 ^ 32 ≤ (A.meaning array.now).holds.shape.blocks) (λ n. n ≡ (A.meaning array.now).holds.shape.blocks) }
 {
     let blocks = array.blocks();
     if blocks < 4294967296 {

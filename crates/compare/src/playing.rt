@@ -24,8 +24,8 @@ pub(crate) fn play_all<A: CellArray>(
 ) -> Vec<Result<u16, Refusal>>
     requires empty { room.items ≡ [] }
     requires roomy { length calls.now ≤ vec_capacity room }
-    ensures played { Played A.Stored.Word.kind chip.old.opening (seen meaning chip.old) calls.now result.items (seen meaning chip.new) }
-    ensures rest { rest chip.new.array ≡ rest chip.old.array }
+    ensures played { Played A.Stored.Word.kind chip.old.opening (seen A.meaning chip.old) calls.now result.items (seen A.meaning chip.new) }
+    ensures rest { A.rest chip.new.array ≡ A.rest chip.old.array }
     ensures opening { chip.new.opening ≡ chip.old.opening }
 {
     let mut answers = room;

@@ -31,7 +31,7 @@ pub fn part(from: usize, to: usize, code: u16, erased: u16) -> [u16; 528]
 
 // What an interrupted program writes of a code; an unlawful code stays.
 fn torn_code<W: Word>(c: u16) -> u16
-    ensures { result ≡ torn_code kind c }
+    ensures { result ≡ torn_code W.kind c }
 {
     match W::from_code(c) {
         Ok(word) => word.torn().to_code(),
@@ -41,7 +41,7 @@ fn torn_code<W: Word>(c: u16) -> u16
 
 // What an interrupted program writes of a page.
 pub fn torn<W: Word>(page: [u16; 528]) -> [u16; 528]
-    ensures { (k : ℕ) → k < 528 → slice_index result k ≡ torn_code kind (slice_index page k) }
+    ensures { (k : ℕ) → k < 528 → slice_index result k ≡ torn_code W.kind (slice_index page k) }
 {
     let mut written = page;
     for column in 0..COLUMNS {

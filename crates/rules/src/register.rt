@@ -32,7 +32,7 @@ fn code_at(codes: &[u16; 528], column: u16, erased: u16) -> u16
 
 // Puts a page of an array over the codes, one pass from the first place to the last.
 fn fetch_codes<A: CellArray>(codes: &mut [u16; 528], array: &A, part: Part, row: u32)
-    ensures { codes.new ≡ page_of part A.Stored.Word.kind.erased ((meaning array.now).holds.code row) }
+    ensures { codes.new ≡ page_of part A.Stored.Word.kind.erased ((A.meaning array.now).holds.code row) }
 {
     let columns = part.columns() as usize;
     let erased = A::Stored::erased().to_code();
@@ -97,7 +97,7 @@ impl PageRegister {
 
     // A page of an array: the row's codes at the part's columns, and the erased code at the places beyond.
     pub fn fetch<A: CellArray>(&mut self, array: &A, part: Part, row: u32)
-        ensures { self.new.codes ≡ page_of part A.Stored.Word.kind.erased ((meaning array.now).holds.code row) }
+        ensures { self.new.codes ≡ page_of part A.Stored.Word.kind.erased ((A.meaning array.now).holds.code row) }
     {
         fetch_codes(&mut self.codes, array, part, row);
     }

@@ -16,8 +16,8 @@ fn run_lent<A: CellArray>(
     trace: &[u8],
     results: &mut [u8],
 ) -> (usize, usize)
-    ensures ran { RanOver A.Stored.Word.kind opening (meaning array.old) trace.now results.old result.0 result.1 results.new (meaning array.new) }
-    ensures rest { rest array.new ≡ rest array.old }
+    ensures ran { RanOver A.Stored.Word.kind opening (A.meaning array.old) trace.now results.old result.0 result.1 results.new (A.meaning array.new) }
+    ensures rest { A.rest array.new ≡ A.rest array.old }
 {
     let mut chip = Chip::open(opening, array);
     run(&mut chip, trace, results)
@@ -32,7 +32,7 @@ fn run_flat<W: Word>(
 ) -> (usize, usize)
     ensures words_kept { array.new.words.ghost_name ≡ array.old.words.ghost_name }
     ensures counts_kept { array.new.counts.ghost_name ≡ array.old.counts.ghost_name }
-    ensures ran { RanFlat kind opening array.old.columns (map code array.old.words.now) array.old.counts.now trace.now results.old result.0 result.1 results.new (map code array.new.words.now) array.new.counts.now }
+    ensures ran { RanFlat W.kind opening array.old.columns (map W.code array.old.words.now) array.old.counts.now trace.now results.old result.0 result.1 results.new (map W.code array.new.words.now) array.new.counts.now }
 {
     run_lent(opening, array, trace, results)
 }
@@ -45,7 +45,7 @@ pub fn run_on_memory<W: Word>(
     trace: &[u8],
     results: &mut [u8],
 ) -> (usize, usize)
-    ensures { RanNew kind opening (map code words.old) counts.old trace.now results.old result.0 result.1 results.new (map code words.new) counts.new }
+    ensures { RanNew W.kind opening (map W.code words.old) counts.old trace.now results.old result.0 result.1 results.new (map W.code words.new) counts.new }
 {
     let columns = opening.part.columns() as usize;
     flat::erase(words, counts, columns);

@@ -31,9 +31,9 @@ fn stop_at_bad(trace: &[u8], rest: &[u8], results: &mut [u8], written: usize) ->
 // Plays the records of a trace one after another, until the trace ends, a record is bad, or no room is left for one more result.
 // How many bytes of the trace were used, and how many result bytes written.
 pub fn run<A: CellArray>(chip: &mut Chip<A>, trace: &[u8], results: &mut [u8]) -> (usize, usize)
-    ensures ran { Ran A.Stored.Word.kind chip.old.opening (seen meaning chip.old) trace.now results.old result.0 result.1 results.new (seen meaning chip.new) }
-    ensures accepted { AcceptedIsPlayed A.Stored.Word.kind chip.old.opening (seen meaning chip.old) trace.now results.old result.0 result.1 results.new (seen meaning chip.new) }
-    ensures rest { rest chip.new.array ≡ rest chip.old.array }
+    ensures ran { Ran A.Stored.Word.kind chip.old.opening (seen A.meaning chip.old) trace.now results.old result.0 result.1 results.new (seen A.meaning chip.new) }
+    ensures accepted { AcceptedIsPlayed A.Stored.Word.kind chip.old.opening (seen A.meaning chip.old) trace.now results.old result.0 result.1 results.new (seen A.meaning chip.new) }
+    ensures rest { A.rest chip.new.array ≡ A.rest chip.old.array }
     ensures opening { chip.new.opening ≡ chip.old.opening }
 {
     let mut left = trace;
