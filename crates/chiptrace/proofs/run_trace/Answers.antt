@@ -5,7 +5,7 @@ use Rattle.chiptrace.proofs.run_trace.Goals as goal
 
 pub returns : goal.returns
 returns c =
-    let over = opened_so _ _ _ _ _ _ _ _ _ _ c.opening.ensures c.run-on-memory-written.ensures in
+    let over = opened_so _ _ _ _ _ _ _ _ _ _ c.opening.ensures c.run_on_memory-written.ensures in
     record {
       bound = bounded _ _ _ _ _ _ _ _ over;
       traced = traced _ _ _ _ _ _ _ _ over (length-map c.args.words.now _ ∙ c.requires.0) c.requires.1 c.requires.2;

@@ -8,8 +8,8 @@ use Rattle.arrays.proofs.flat.erase.Goals as goal
 extent : (n m columns words counts : ℕ) → n ≡ flat_blocks columns words counts → m ≡ min columns 4096 → n * (32 * m) ≡ flat_blocks columns words counts * (32 * columns)
 extent n m columns words counts e w = rw (e, w) (places columns words counts)
 
-pub put-first-blocks-requires : goal.put-first-blocks-requires
-put-first-blocks-requires g c =
+pub put_first_blocks-requires : goal.put_first_blocks-requires
+put_first_blocks-requires g c =
     let a = c.args in
     let words = length a.words.now in
     let counts = length a.counts.now in
@@ -29,10 +29,10 @@ returns g c =
     let K = g.W.Word.kind in
     let f = g.W.Word.code in
     let cs = map f a.words.now in
-    let cs' = map f c.put-first-blocks.new.words in
+    let cs' = map f c.put_first_blocks.new.words in
     let size = c.room-n.ensures ∙ blocks_of_codes f a.columns a.words.now (length a.counts.now) in
     let span = extent c.room-n.result c.min-width.result a.columns (length cs) (length a.counts.now) size c.min-width.ensures in
     let erases = subst (λ (v : ℕ). Put cs cs' 0 (flat_blocks a.columns (length cs) (length a.counts.now) * (32 * a.columns)) v) c.erased.ensures
-    (subst (λ (n : ℕ). Put cs cs' 0 n (f c.erased.result)) span c.put-first-blocks.ensures) in
-    let zeroes = subst (λ (n : ℕ). Put a.counts.now c.zero-first-blocks.new.counts 0 (32 * n) 0) size c.zero-first-blocks.ensures in
-    record { erases = erases; zeroes = zeroes; new = flat_erased K a.columns cs cs' a.counts.now c.zero-first-blocks.new.counts erases zeroes }
+    (subst (λ (n : ℕ). Put cs cs' 0 n (f c.erased.result)) span c.put_first_blocks.ensures) in
+    let zeroes = subst (λ (n : ℕ). Put a.counts.now c.zero_first_blocks.new.counts 0 (32 * n) 0) size c.zero_first_blocks.ensures in
+    record { erases = erases; zeroes = zeroes; new = flat_erased K a.columns cs cs' a.counts.now c.zero_first_blocks.new.counts erases zeroes }

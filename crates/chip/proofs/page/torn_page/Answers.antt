@@ -6,7 +6,7 @@ use Rattle.chip.proofs.page.torn_page.Goals as goal
 
 pub loop-column-init : goal.loop-column-init
 unfolding blank
-loop-column-init g c = (ap length c.erased-cut.ensures ∙ length-replicate 528 c.erased-code.result, refl)
+loop-column-init g c = (ap length c.erased-cut.ensures ∙ length-replicate 528 c.erased_code.result, refl)
 
 pub loop-column-preserved : goal.loop-column-preserved
 loop-column-preserved g c =

@@ -4,7 +4,7 @@ use Rattle.rules.specs.Answering.{Answer}
 use Rattle.compare.specs.Played.{count_taken}
 use Rattle.compare.proofs.Counts.{all_answered}
 use Rattle.compare.proofs.answers.count_answers.Goals as goal
-use Rattle.compare.proofs.answers.count_answers.Goals.{then-is-ok, else-is-ok}
+use Rattle.compare.proofs.answers.count_answers.Goals.{then-is_ok, else-is_ok}
 
 counts_head : (a : Answer) (xs : List Answer) → count_taken (a ∷ xs) ≡ cond (is_ok a) 1 0 + count_taken xs
 counts_head (Ok v) xs = refl
@@ -17,13 +17,13 @@ step xs i h b e = at_drop_more count_taken xs i (Ok 0) h ∙ (counts_head (get_o
 pub loop-answer-preserved : goal.loop-answer-preserved
 loop-answer-preserved c =
     let s = step c.args.answers.now c.loop-answer.answer-index c.loop-answer-test.true in
-    elim c.if-is-ok.branch [
-      | then-is-ok w ↦ (omega (arith, w.taken-is), omega (arith, w.taken-is, s true w.if-is-ok.ensures.value))
-      | else-is-ok w ↦ (omega (arith, w.taken-is), omega (arith, w.taken-is, s false w.if-is-ok.ensures.value))
+    elim c.if-is_ok.branch [
+      | then-is_ok w ↦ (omega (arith, w.taken-is), omega (arith, w.taken-is, s true w.if-is_ok.ensures.value))
+      | else-is_ok w ↦ (omega (arith, w.taken-is), omega (arith, w.taken-is, s false w.if-is_ok.ensures.value))
     ]
 
 pub returns : goal.returns
 returns c =
     let end = at_drop_all count_taken c.args.answers.now c.loop-answer.answer-index c.loop-answer-test.false in
     let all = all_answered c.args.answers.now in
-    record { taken = omega (arith, end, c.tally-of.ensures.taken); refused = omega (arith, end, all, c.tally-of.ensures.refused) }
+    record { taken = omega (arith, end, c.tally_of.ensures.taken); refused = omega (arith, end, all, c.tally_of.ensures.refused) }

@@ -33,13 +33,13 @@ loop-call-preserved g c =
     let step = subst (λ (x : Opening). Step K x before (event K x before call a) after) c.loop-call.invariant.3 c.play-answer.ensures.step in
     let more = played_more c.loop-call.invariant.5 (event K o before call a) step in (
       omega arith,
-      omega (arith, c.push-reserved.ensures.len),
-      omega (arith, c.push-reserved.ensures.capacity),
+      omega (arith, c.push_reserved.ensures.len),
+      omega (arith, c.push_reserved.ensures.capacity),
       c.play-answer.ensures.opening ∙ c.loop-call.invariant.3,
       c.play-answer.ensures.rest ∙ c.loop-call.invariant.4,
-      subst (λ (cs : List Call). Played K o (see c.args.chip.now) cs (vec_items c.push-reserved.new.self) after)
+      subst (λ (cs : List Call). Played K o (see c.args.chip.now) cs (vec_items c.push_reserved.new.self) after)
           (sym (take_more calls i (Call.Command 0) c.loop-call-test.true))
-          (subst (λ (xs : List Answer). Played K o (see c.args.chip.now) (take i calls ++ call ∷ []) xs after) (sym c.push-reserved.ensures.items) more),
+          (subst (λ (xs : List Answer). Played K o (see c.args.chip.now) (take i calls ++ call ∷ []) xs after) (sym c.push_reserved.ensures.items) more),
     )
 
 pub returns : goal.returns

@@ -9,4 +9,4 @@ loop-column-preserved c =
     let i = c.loop-column.column in
     let f = part_code c.args.from c.args.to c.args.code c.args.erased in
     let within : i < length page = omega (arith, c.loop-column.invariant.0) in
-    (length-set _ _ _ ∙ c.loop-column.invariant.0, subst (λ (v : ℕ). (k : ℕ) → k < i + 1 → get_or (set page i v) k 0 ≡ f k) (sym c.code-at.ensures) (fill_by_more f page i 0 within c.loop-column.invariant.1))
+    (length-set _ _ _ ∙ c.loop-column.invariant.0, subst (λ (v : ℕ). (k : ℕ) → k < i + 1 → get_or (set page i v) k 0 ≡ f k) (sym c.code_at.ensures) (fill_by_more f page i 0 within c.loop-column.invariant.1))

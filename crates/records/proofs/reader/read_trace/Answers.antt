@@ -14,5 +14,5 @@ pub loop-rest-preserved : goal.loop-rest-preserved
 loop-rest-preserved c =
     let was = vec_items c.loop-rest.calls in
     let call = c.in-Some.call in
-    let items = held (is_ok c.push.result) (was ++ call ∷ []) was (vec_items c.push.new.self) c.push.ensures.items c.if-is-err.ensures.negation in
+    let items = held (is_ok c.push.result) (was ++ call ∷ []) was (vec_items c.push.new.self) c.push.ensures.items c.if-is_err.ensures.negation in
     subst (λ (calls : List Call). Turn c.args.trace.now c.in-Some.next.now calls) (sym items) (turn_more _ _ _ _ _ c.loop-rest.invariant c.in-Some.ensures.begins)

@@ -9,5 +9,5 @@ returns c =
     let bytes = c.args.bytes.now in
     let size = (at + length bytes) - at in
     let past : at + size ≡ at + length bytes = omega arith in
-    ap (λ (ys : List ℕ). take at out ++ (ys ++ drop size (drop at out))) c.copy-from-slice.ensures.after
+    ap (λ (ys : List ℕ). take at out ++ (ys ++ drop size (drop at out))) c.copy_from_slice.ensures.after
     ∙ ap (λ (zs : List ℕ). take at out ++ (bytes ++ zs)) (drop-drop size at out ∙ ap (λ (n : ℕ). drop n out) past)

@@ -11,4 +11,4 @@ pub loop-count-preserved : goal.loop-count-preserved
 loop-count-preserved c =
     let call = get_or c.args.calls.now c.loop-count.count (Command 0) in
     let room = subst (λ (n : ℕ). ◌≡◌ {A = Option ℕ} (Some c.in-Some.size) (size_in call (n - c.loop-count.written))) c.loop-count.auto.out c.in-Some.ensures in
-    turn_more c.args.calls.now c.args.out.now c.loop-count.count c.loop-count.written c.loop-count.out c.in-Some.size c.put-record.new.out c.loop-count.invariant c.loop-count-test.true room c.put-record.ensures
+    turn_more c.args.calls.now c.args.out.now c.loop-count.count c.loop-count.written c.loop-count.out c.in-Some.size c.put_record.new.out c.loop-count.invariant c.loop-count-test.true room c.put_record.ensures

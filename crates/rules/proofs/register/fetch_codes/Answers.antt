@@ -6,7 +6,7 @@ use Rattle.rules.proofs.register.fetch_codes.Goals.{then-column-columns, else-co
 pub loop-column-preserved : goal.loop-column-preserved
 loop-column-preserved g c =
     let f : ℕ → ℕ = (g.A.CellArray.meaning c.args.array.now).holds.code c.args.row in
-    let e = c.to-code-erased.result in
+    let e = c.to_code-erased.result in
     let n = c.columns-columns.result in
     let i = c.loop-column.column in
     let within : c.loop-column.column < length c.args.codes.now = search rules in
@@ -22,5 +22,5 @@ returns g c =
     let f : ℕ → ℕ = (g.A.CellArray.meaning c.args.array.now).holds.code c.args.row in
     let long : length c.args.codes.now ≡ 528 = search rules in
     let end : c.loop-column.column ≡ 528 = omega arith in
-    fetched_end c.args.part f c.to-code-erased.result g.Stored.Word.kind.erased c.columns-columns.result c.loop-column.column
-    c.args.codes.now c.loop-column.codes c.loop-column.invariant c.columns-columns.ensures.value (c.to-code-erased.ensures ∙ c.erased.ensures) long end
+    fetched_end c.args.part f c.to_code-erased.result g.Stored.Word.kind.erased c.columns-columns.result c.loop-column.column
+    c.args.codes.now c.loop-column.codes c.loop-column.invariant c.columns-columns.ensures.value (c.to_code-erased.ensures ∙ c.erased.ensures) long end

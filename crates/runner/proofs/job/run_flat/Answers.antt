@@ -10,15 +10,15 @@ returns g c =
     let f = g.W.Word.code in
     let o = c.args.opening in
     let old = c.args.array.now in
-    let new = c.run-lent.new.array in
-    let e = c.run-lent.ensures.rest in
+    let new = c.run_lent.new.array in
+    let e = c.run_lent.ensures.rest in
     record {
       words_kept = same_words_name _ _ _ _ _ _ _ _ _ _ e;
       counts_kept = same_counts_name _ _ _ _ _ _ _ _ _ _ e;
       ran = record {
         inside = subst (λ (n : ℕ). RanOver K o (flat K old.columns (map f old.words.now) old.counts.now) c.args.trace.now c.args.results.now
-            c.run-lent.result.0 c.run-lent.result.1 c.run-lent.new.results (flat K n (map f new.words.now) new.counts.now))
-            (same_columns _ _ _ _ _ _ _ _ _ _ e) c.run-lent.ensures.ran;
+            c.run_lent.result.0 c.run_lent.result.1 c.run_lent.new.results (flat K n (map f new.words.now) new.counts.now))
+            (same_columns _ _ _ _ _ _ _ _ _ _ e) c.run_lent.ensures.ran;
         beyond = rest_beyond _ _ _ _ _ _ (map f old.words.now) old.counts.now (map f new.words.now) new.counts.now e;
       };
     }

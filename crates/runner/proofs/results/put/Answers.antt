@@ -7,5 +7,5 @@ returns c =
     let at = c.args.at in
     let out = c.args.results.now in
     let past : at + ((at + 4) - at) ≡ at + 4 = omega arith in
-    ap (λ (ys : List ℕ). take at out ++ (ys ++ drop ((at + 4) - at) (drop at out))) c.copy-from-slice.ensures.after
+    ap (λ (ys : List ℕ). take at out ++ (ys ++ drop ((at + 4) - at) (drop at out))) c.copy_from_slice.ensures.after
     ∙ ap (λ (zs : List ℕ). take at out ++ (c.args.bytes ++ zs)) (drop-drop ((at + 4) - at) at out ∙ ap (λ (n : ℕ). drop n out) past)

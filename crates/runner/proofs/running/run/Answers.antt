@@ -16,9 +16,9 @@ returns-in-default g c =
     let so = c.loop-left.invariant.0 in
     let turn = goes c.loop-left.left.now (length c.loop-left.results - c.loop-left.written) c.loop-left-test.ensures in
     let room : 4 ≤ length c.args.results.now - c.loop-left.written = omega (arith, turn.roomy, so.same) in
-    let ran = finish K o _ _ _ _ _ _ _ so bad_bytes c.stop-at-bad.new.results 4 (plays_bad K o _ _ _ room turn.some (sym c.in-default.ensures.value)) refl c.stop-at-bad.ensures.told in
-    let told : Ran K o (seen m c.args.chip.now) c.args.trace.now c.args.results.now c.stop-at-bad.result.0 c.stop-at-bad.result.1
-    c.stop-at-bad.new.results (seen m c.loop-left.chip) = rw (c.stop-at-bad.ensures.used, c.stop-at-bad.ensures.count) ran in
+    let ran = finish K o _ _ _ _ _ _ _ so bad_bytes c.stop_at_bad.new.results 4 (plays_bad K o _ _ _ room turn.some (sym c.in_default.ensures.value)) refl c.stop_at_bad.ensures.told in
+    let told : Ran K o (seen m c.args.chip.now) c.args.trace.now c.args.results.now c.stop_at_bad.result.0 c.stop_at_bad.result.1
+    c.stop_at_bad.new.results (seen m c.loop-left.chip) = rw (c.stop_at_bad.ensures.used, c.stop_at_bad.ensures.count) ran in
     record {
       ran = told;
       accepted = accepted K o _ _ _ _ _ _ _ told;

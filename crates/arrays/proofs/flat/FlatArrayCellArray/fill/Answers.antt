@@ -7,8 +7,8 @@ use Rattle.arrays.proofs.Flats.{blocks_few, block_fits, flat_filled}
 use Rattle.arrays.proofs.Rests.{rest_filled}
 use Rattle.arrays.proofs.flat.FlatArrayCellArray.fill.Goals as goal
 
-pub put-block-requires : goal.put-block-requires
-put-block-requires g c =
+pub put_block-requires : goal.put_block-requires
+put_block-requires g c =
     let s = c.args.self.now in
     let f = g.W.Word.code in
     let words = length (map f s.words.now) in
@@ -24,11 +24,11 @@ returns-in-Ok g c =
     let K = g.W.Word.kind in
     let f = g.W.Word.code in
     let cs = map f s.words.now in
-    let cs' = map f c.put-block.new.words in
+    let cs' = map f c.put_block.new.words in
     let within : c.args.block < flat_blocks s.columns (length cs) (length s.counts.now) = omega arith in
-    let put = subst (λ (v : ℕ). Put cs cs' (c.args.block * 32 * s.columns) (32 * s.columns) v) c.in-Ok.ensures.1 c.put-block.ensures in
+    let put = subst (λ (v : ℕ). Put cs cs' (c.args.block * 32 * s.columns) (32 * s.columns) v) c.in-Ok.ensures.1 c.put_block.ensures in
     record {
       done = accepted K _ _ _ (and_from _ _ (lt-ltb c.args.block _ within) c.in-Ok.ensures.0)
-          (flat_filled K s.columns cs cs' s.counts.now c.zero-block.new.counts c.args.block c.args.code within put c.zero-block.ensures);
-      rest = rest_filled s.words.name s.counts.ghost_name s.columns cs cs' s.counts.now c.zero-block.new.counts c.args.block c.args.code within put c.zero-block.ensures;
+          (flat_filled K s.columns cs cs' s.counts.now c.zero_block.new.counts c.args.block c.args.code within put c.zero_block.ensures);
+      rest = rest_filled s.words.ghost_name s.counts.ghost_name s.columns cs cs' s.counts.now c.zero_block.new.counts c.args.block c.args.code within put c.zero_block.ensures;
     }

@@ -7,12 +7,12 @@ use Rattle.arrays.proofs.Flats.{row_fits, flat_programmed}
 use Rattle.arrays.proofs.Rests.{rest_programmed}
 use Rattle.arrays.proofs.flat.FlatArrayCellArray.program.Goals as goal
 
-pub join-row-requires : goal.join-row-requires
-join-row-requires g c =
+pub join_row-requires : goal.join_row-requires
+join_row-requires g c =
     let s = c.args.self.now in
     let f = g.W.Word.code in
-    let inside = ltb-true _ _ (sym c.if-not-has-row.ensures) in
-    let page = and_parts _ _ (sym c.if-not-is-page.ensures) in
+    let inside = ltb-true _ _ (sym c.if-not-has_row.ensures) in
+    let page = and_parts _ _ (sym c.if-not-is_page.ensures) in
     record {
       fits = omega (
         arith,
@@ -29,14 +29,14 @@ returns g c =
     let K = g.W.Word.kind in
     let f = g.W.Word.code in
     let cs = map f s.words.now in
-    let cs' = map f c.join-row.new.words in
-    let inside = ltb-true _ _ (sym c.if-not-has-row.ensures) in
+    let cs' = map f c.join_row.new.words in
+    let inside = ltb-true _ _ (sym c.if-not-has_row.ensures) in
     let within : c.args.row < 32 * flat_blocks s.columns (length cs) (length s.counts.now) = omega arith in
-    let page = sym c.if-not-is-page.ensures in
-    let joined = subst (λ (m : ℕ). Joined K cs cs' (c.args.row * s.columns) c.args.codes.now m) (eqb-true _ _ (and_parts _ _ page).0) c.join-row.ensures in
+    let page = sym c.if-not-is_page.ensures in
+    let joined = subst (λ (m : ℕ). Joined K cs cs' (c.args.row * s.columns) c.args.codes.now m) (eqb-true _ _ (and_parts _ _ page).0) c.join_row.ensures in
     record {
       done = accepted K _ _ _ (and_from _ _ (lt-ltb c.args.row _ within) page)
-          (flat_programmed K s.columns cs cs' s.counts.now c.count-program.new.counts c.args.row c.args.codes.now c.args.closes within joined c.count-program.ensures);
-      rest = rest_programmed K s.words.name s.counts.ghost_name s.columns cs cs' s.counts.now c.count-program.new.counts c.args.row _ c.args.codes.now
-          within joined c.count-program.ensures;
+          (flat_programmed K s.columns cs cs' s.counts.now c.count_program.new.counts c.args.row c.args.codes.now c.args.closes within joined c.count_program.ensures);
+      rest = rest_programmed K s.words.ghost_name s.counts.ghost_name s.columns cs cs' s.counts.now c.count_program.new.counts c.args.row _ c.args.codes.now
+          within joined c.count_program.ensures;
     }
