@@ -26,6 +26,6 @@ module _ (t : List ℕ) (small : (i : ℕ) → get_or t i 0 < 256) where
 pub returns : goal.returns
 returns c =
     let t = c.args.trace.now in
-    let small : (i : ℕ) → get_or t i 0 < 256 = λ i. omega (arith, c.type-inv.trace i) in
+    let small : (i : ℕ) → get_or t i 0 < 256 = λ i. omega (arith, c.type_inv.trace i) in
     let h = c.match_record.ensures in
     record { value = value t small _ h; shorter = shorter t small _ h; begins = begins t small _ h }
