@@ -19,7 +19,7 @@ returns g c =
     subst (λ (a : g.row.A.Denot). Decides w (EqualCells (holds a) (other_holds c.play_all-other_answers.new.chip.array))) c.array-2.ensures
     (subst (λ (b : g.row.B.Denot). Decides w (EqualCells (holds c.array-2.result.now) (other_holds b))) c.array-3.ensures c.same_arrays-cells_equal.ensures) in
     record {
-      compared = compared g.Stored.Word.laws c.play_all-answers.ensures.played c.play_all-other_answers.ensures.played v w c.same_kept-answers_equal.ensures cells;
+      compared = compared g.A.Stored.Word.laws c.play_all-answers.ensures.played c.play_all-other_answers.ensures.played v w c.same_kept-answers_equal.ensures cells;
       untouched = tt;
       error = tt;
       rest = c.play_all-answers.ensures.rest;

@@ -21,7 +21,7 @@ loop-call-init g c = (
 
 pub loop-call-preserved : goal.loop-call-preserved
 loop-call-preserved g c =
-    let K = g.Stored.Word.kind in
+    let K = g.A.Stored.Word.kind in
     let see = seen g.A.CellArray.meaning in
     let calls = c.args.calls.now in
     let i = c.loop-call.call-index in
@@ -44,7 +44,7 @@ loop-call-preserved g c =
 
 pub returns : goal.returns
 returns g c = record {
-  played = subst (λ (cs : List Call). Played g.Stored.Word.kind c.args.chip.now.opening (seen g.A.CellArray.meaning c.args.chip.now) cs
+  played = subst (λ (cs : List Call). Played g.A.Stored.Word.kind c.args.chip.now.opening (seen g.A.CellArray.meaning c.args.chip.now) cs
       (vec_items c.loop-call.answers) (seen g.A.CellArray.meaning c.loop-call.chip))
       (take_all c.loop-call.call-index c.args.calls.now c.loop-call-test.false) c.loop-call.invariant.5;
   rest = c.loop-call.invariant.4;

@@ -22,5 +22,5 @@ returns g c =
     let f : ℕ → ℕ = (g.A.CellArray.meaning c.args.array.now).holds.code c.args.row in
     let long : length c.args.codes.now ≡ 528 = search rules in
     let end : c.loop-column.column ≡ 528 = omega arith in
-    fetched_end c.args.part f c.to_code-erased.result g.Stored.Word.kind.erased c.columns-columns.result c.loop-column.column
+    fetched_end c.args.part f c.to_code-erased.result g.A.Stored.Word.kind.erased c.columns-columns.result c.loop-column.column
     c.args.codes.now c.loop-column.codes c.loop-column.invariant c.columns-columns.ensures.value (c.to_code-erased.ensures ∙ c.erased.ensures) long end

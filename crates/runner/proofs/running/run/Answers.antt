@@ -10,7 +10,7 @@ use Rattle.runner.proofs.running.run.Goals as goal
 
 pub returns-in-default : goal.returns-in-default
 returns-in-default g c =
-    let K = g.Stored.Word.kind in
+    let K = g.A.Stored.Word.kind in
     let m = g.A.CellArray.meaning in
     let o = c.args.chip.now.opening in
     let so = c.loop-left.invariant.0 in
@@ -28,7 +28,7 @@ returns-in-default g c =
 
 pub loop-left-preserved : goal.loop-left-preserved
 loop-left-preserved g c =
-    let K = g.Stored.Word.kind in
+    let K = g.A.Stored.Word.kind in
     let m = g.A.CellArray.meaning in
     let o = c.args.chip.now.opening in
     let so = c.loop-left.invariant.0 in
@@ -45,7 +45,7 @@ loop-left-preserved g c =
 
 pub returns : goal.returns
 returns g c =
-    let K = g.Stored.Word.kind in
+    let K = g.A.Stored.Word.kind in
     let o = c.args.chip.now.opening in
     let so = c.loop-left.invariant.0 in
     let ran = ⊎_elim

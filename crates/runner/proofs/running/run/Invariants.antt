@@ -5,7 +5,7 @@ use Rattle.runner.proofs.running.run.Given as goal
 
 abbrev pub invariant-loop-left : goal.invariant-loop-left
 invariant-loop-left g l =
-    Sofar g.Stored.Word.kind l.initial.chip.opening (seen g.A.CellArray.meaning l.initial.chip) l.trace l.initial.results
+    Sofar g.A.Stored.Word.kind l.initial.chip.opening (seen g.A.CellArray.meaning l.initial.chip) l.trace l.initial.results
     (seen g.A.CellArray.meaning l.chip) l.left l.results l.written
     × (g.A.CellArray.rest l.chip.array ≡ g.A.CellArray.rest l.initial.chip.array)
     × (l.chip.opening ≡ l.initial.chip.opening)
