@@ -8,8 +8,8 @@ use Rattle.runner.proofs.Turns.{goes, stops, one_more, finish, no_more, plays_ba
 use Rattle.runner.proofs.Accepted.{accepted}
 use Rattle.runner.proofs.running.run.Goals as goal
 
-pub returns-in-default : goal.returns-in-default
-returns-in-default g c =
+pub returns-in_default : goal.returns-in_default
+returns-in_default g c =
     let K = g.A.Stored.Word.kind in
     let m = g.A.CellArray.meaning in
     let o = c.args.chip.now.opening in
