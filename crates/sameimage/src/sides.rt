@@ -32,20 +32,20 @@ fn message(
 ) -> anyhow::Result<anyhow::Error> {
     let heap = rt.alloc();
     match error {
-        CompareError::NoMemory => Ok("no memory for the answers".into()),
-        CompareError::TooLarge => Ok("the array is too large".into()),
+        CompareError::NoMemory => Ok(anyhow!("no memory for the answers")),
+        CompareError::TooLarge => Ok(anyhow!("the array is too large")),
         CompareError::NotRead { side, error } => {
             let file = match side {
                 Side::One => name,
                 Side::Other => other_name,
             };
             match error {
-                TraceError::BadRecord { whole } => Ok(format!(in heap;
+                TraceError::BadRecord { whole } => Ok(anyhow!(format!(in heap;
                     "{file}: refused with 14, a bad record after {whole} bytes"
-                )?.into()),
-                TraceError::NoMemory { whole } => Ok(format!(in heap;
+                )?)),
+                TraceError::NoMemory { whole } => Ok(anyhow!(format!(in heap;
                     "{file}: no memory for the calls after {whole} bytes"
-                )?.into()),
+                )?)),
             }
         }
     }

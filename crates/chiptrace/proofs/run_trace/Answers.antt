@@ -8,5 +8,5 @@ returns c =
     let over = opened_so _ _ _ _ _ _ _ _ _ _ c.opening.ensures c.run_on_memory-written.ensures in
     record {
       bound = bounded _ _ _ _ _ _ _ _ over;
-      traced = traced _ _ _ _ _ _ _ _ over (length-map c.args.words.now _ ∙ c.requires.0) c.requires.1 c.requires.2;
+      traced = traced _ _ _ _ _ _ _ _ over (length-map c.args.words.now _ ∙ c.requires.words_len) c.requires.counts_len c.requires.results_len;
     }
