@@ -1,7 +1,9 @@
 #!/usr/bin/env python3
 """Brings the names of the repository's own definitions and lemmas to the spelling of today's library:
 a type, a fact or a record is UpperCamel (Same-cells becomes SameCells), everything else is snake_case
-(byte-kind becomes byte_kind). Run once, after the toolchain's own port.py, at the top of the repository:
+(byte-kind becomes byte_kind). It also names a
+trait's ghost member by the type parameter that it belongs to in a clause of generic code (kind becomes W.kind, meaning
+becomes A.meaning). Run once, after the toolchain's own port.py, at the top of the repository:
 
     python3 tools/respell_names.py [--dry]
 
@@ -97,6 +99,33 @@ def turn(text, names, kind):
     return "\n".join(lines)
 
 
+def by_parameter(path, text):
+    """In clauses of generic code, each ghost member of a bound with the type parameter that has it."""
+    if not path.endswith(".rt") or path.endswith(("words/src/word.rt", "arrays/src/cell_array.rt")):
+        return text
+    word, array, lines = None, None, []
+    for line in text.split("\n"):
+        m = re.search(r"\b(\w+): (?:[\w ]+\+ )?Word\b", line)
+        if m and ("<" in line or re.match(r"\s+\w+: Word", line)):
+            word = m.group(1)
+        m = re.search(r"<(?:'\w+, )?(\w+): CellArray", line)
+        if m:
+            array = m.group(1)
+        m = re.match(r"(\s*(?:requires|ensures)\b[^{]*\{)(.*)$", line)
+        if m:
+            body = m.group(2)
+            if word:
+                body = re.sub(r"(?<![\w.])kind(?!\w)", word + ".kind", body)
+                body = re.sub(r"\bmap code ", f"map {word}.code ", body)
+                body = re.sub(r"(?<![\w.])code (result|word)\b", word + r".code \1", body)
+            if array:
+                body = re.sub(r"(?<![\w.])meaning(?!\w)", array + ".meaning", body)
+                body = re.sub(r"(?<![\w.])rest (self|array|chip)\.", array + r".rest \1.", body)
+            line = m.group(1) + body
+        lines.append(line)
+    return "\n".join(lines)
+
+
 def main():
     dry = "--dry" in sys.argv
     texts = {p: open(p, encoding="utf-8").read() for p in files(".") if "/.git/" not in p}
@@ -136,7 +165,7 @@ def main():
         print("LEFT", len(left), " ".join(sorted(left)))
         return
     for path, text in texts.items():
-        new = turn(text, names, os.path.splitext(path)[1])
+        new = by_parameter(path, turn(text, names, os.path.splitext(path)[1]))
         if new != open(path, encoding="utf-8").read():
             with open(path, "w", encoding="utf-8") as out:
                 out.write(new)

@@ -1,5 +1,5 @@
 // A call with the answer that is expected of it, and the playing of such calls.
-ghost use Rattle.std.specs.Prelude.{◌≡◌, true};
+ghost use Rattle.std.specs.Prelude.{◌≡◌, true, Ok, Err};
 ghost use Rattle.rules.specs.Running.{Step};
 ghost use Rattle.chip.specs.Calls.{seen, event};
 
@@ -19,6 +19,7 @@ pub struct Expected {
 // The call is taken, and has nothing to tell.
 pub fn taken(call: Call) -> Expected
     ensures call { result.call ≡ call }
+    ensures answer { result.answer ≡ Ok 0 }
 {
     Expected {
         call,
@@ -28,6 +29,7 @@ pub fn taken(call: Call) -> Expected
 
 pub fn gives(call: Call, value: u16) -> Expected
     ensures call { result.call ≡ call }
+    ensures answer { result.answer ≡ Ok value }
 {
     Expected {
         call,
@@ -37,6 +39,7 @@ pub fn gives(call: Call, value: u16) -> Expected
 
 pub fn refuses(call: Call, refusal: Refusal) -> Expected
     ensures call { result.call ≡ call }
+    ensures answer { result.answer ≡ Err refusal }
 {
     Expected {
         call,

@@ -2,3 +2,5 @@ pub mod Differences
 pub mod Played
 pub mod Compared
 pub mod Errors
+pub mod FirstRefusals
+pub mod Built

@@ -1,6 +1,7 @@
 // Answers of calls: whether two lists of them are equal, and how many calls were taken.
 ghost use Rattle.std.specs.Prelude.{◌≡◌, ℕ, ◌-◌, ◌≤◌, Decides};
 ghost use Rattle.compare.specs.Played.{count_taken, count_refused};
+ghost use Rattle.compare.specs.FirstRefusals.{FirstRefusalIn};
 
 use refusals::Refusal;
 
@@ -9,6 +10,13 @@ use refusals::Refusal;
 pub struct Tally {
     pub taken: usize,
     pub refused: usize,
+}
+
+// The first call that was refused, counted from 0, and why.
+#[derive(Clone, Copy, PartialEq, Eq, Debug)]
+pub struct FirstRefusal {
+    pub call: usize,
+    pub why: Refusal,
 }
 
 pub fn same_answer(one: Result<u16, Refusal>, other: Result<u16, Refusal>) -> bool
@@ -65,4 +73,15 @@ pub fn count_answers(answers: &[Result<u16, Refusal>]) -> Tally
         }
     }
     tally_of(taken, answers.len())
+}
+
+pub fn first_refusal(answers: &[Result<u16, Refusal>]) -> Option<FirstRefusal>
+    ensures { FirstRefusalIn answers.now result }
+{
+    for i in 0..answers.len() {
+        if let Err(why) = answers[i] {
+            return Some(FirstRefusal { call: i, why });
+        }
+    }
+    None
 }

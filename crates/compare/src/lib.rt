@@ -2,6 +2,7 @@
 #![tactic(auto)]
 
 pub mod answers;
+pub mod builds;
 pub mod cells;
 pub mod compare;
 pub mod error;

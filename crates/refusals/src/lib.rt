@@ -1,8 +1,9 @@
 // Why a call was refused: one enum for the whole project, and the number of each refusal.
 #![tactic(auto)]
 
-ghost use Rattle.std.specs.Prelude.{◌≡◌, ℕ, ◌≤◌};
+ghost use Rattle.std.specs.Prelude.{◌≡◌, ℕ, ◌≤◌, Some};
 ghost use Rattle.refusals.specs.Numbers.{number};
+ghost use Rattle.refusals.specs.Texts.{refusal_text};
 
 use std::fmt;
 
@@ -69,6 +70,8 @@ impl Refusal {
 }
 
 impl fmt::Display for Refusal {
+    ghost output = { λ refusal. Some (refusal_text refusal) };
+
     fn fmt<W: fmt::Write>(&self, f: &mut fmt::Formatter<W>) -> fmt::Result {
         match self {
             Refusal::Dead => f.write_str("the chip is dead"),

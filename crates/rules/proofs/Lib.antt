@@ -13,3 +13,4 @@ pub mod Benches
 pub mod Willing
 pub mod Tours
 pub mod Fetched
+pub mod Endings

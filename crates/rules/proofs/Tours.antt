@@ -6,6 +6,7 @@ use Rattle.rules.specs.Asking.{operation}
 use Rattle.rules.specs.Moving.{control_after}
 use Rattle.rules.specs.Bench.{play}
 use Rattle.rules.specs.Tour.{Tour}
+use Rattle.rules.specs.Further.{Further}
 
 pub tour : Tour
 unfolding play answer operation control_after blank page_of
@@ -26,4 +27,13 @@ tour = record {
   counts = refl;
   copies = refl;
   dead = refl;
+}
+
+pub further : Further
+unfolding play answer operation control_after blank page_of
+further = record {
+  read_falls_back = refl;
+  erase_falls_back = refl;
+  stays = refl;
+  cut_copy = refl;
 }

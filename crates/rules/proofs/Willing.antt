@@ -14,7 +14,7 @@ use Rattle.rules.specs.Parts.{columns, most_rows, next_row}
 use Rattle.rules.specs.Controls.{under}
 use Rattle.rules.specs.Answering.{is_dead}
 use Rattle.rules.specs.Asking.{Ending, none, whole, torn, ending, operation_of, operation}
-use Rattle.rules.specs.Conduct.{willing, OnlyTheUnwillingFail, RowsCountLowFirst}
+use Rattle.rules.specs.Conduct.{willing, OnlyTheUnwillingFail, RowsCountLowFirst, RegisterIsLawful}
 use Rattle.rules.proofs.Lows.{IsLawful}
 use Rattle.rules.proofs.Registers.{LawfulPage, lawful_take, lawful_torn}
 use Rattle.rules.proofs.Failures.{fails}
@@ -73,6 +73,9 @@ accepted K L o m c call long lawful = go (is_dead K o m.holds.shape) refl
     go true e = refl
     go false e =
         work_accepted K L o.part m (eqb-true _ _ (and_parts _ _ (not-false _ e)).0) c.register.codes (under c.state) (ending o.part call) long lawful
+
+pub register_is_lawful : RegisterIsLawful
+register_is_lawful K L o m es c n r = page_lawful K c.control.register.codes (register_kept K L o m es c n r)
 
 pub only_the_unwilling_fail : OnlyTheUnwillingFail
 only_the_unwilling_fail K L o m es e c c' n r t =

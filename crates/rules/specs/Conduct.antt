@@ -1,16 +1,18 @@
 -- Laws of the rules themselves. Assumes nothing.
-use Rattle.std.specs.Prelude.{◌≡◌, ℕ, ◌+◌, ◌*◌, ◌%◌, ◌≤◌, Bool, true, not, ◌⊎◌, ◌↔◌, List, length, None, Ok, Err, slice_index_or}
+use Rattle.std.specs.Prelude.{◌≡◌, ℕ, ◌+◌, ◌*◌, ◌%◌, ◌≤◌, Bool, true, false, not, ◌⊎◌, ◌↔◌, List, length, None, Ok, Err, slice_index_or}
 use Rattle.refusals.specs.declared.Refusal.{Refusal}
 use Rattle.refusals.specs.Numbers.{number}
 use Rattle.records.specs.declared.call.Call.{Call}
-use Rattle.words.specs.Kind.{Kind, KindLaws}
+use Rattle.words.specs.Kind.{Kind, KindLaws, all_lawful}
 use Rattle.arrays.specs.Meaning.{Meaning, Operation, nothing, programs, fills, New}
 use Rattle.rules.specs.declared.part.Part.{Part}
+use Rattle.rules.specs.declared.part.Pointer.{Pointer}
+use Rattle.rules.specs.declared.state.Purpose.{Purpose}
 use Rattle.rules.specs.declared.state.State.{State}
 use Rattle.rules.specs.declared.control.Opening.{Opening}
 use Rattle.rules.specs.Parts.{columns, most_rows, next_row}
 use Rattle.rules.specs.Controls.{is_busy}
-use Rattle.rules.specs.Answering.{is_dead}
+use Rattle.rules.specs.Answering.{is_dead, unless, done}
 use Rattle.rules.specs.Asking.{operation}
 use Rattle.rules.specs.Running.{Chip, Event, Step, Runs, opened}
 
@@ -38,6 +40,37 @@ RefusedStarts = (K : Kind) (o : Opening) (c c' : Chip) (e : Event) (why : Refusa
 abbrev pub FailuresAreTold : Type 0
 FailuresAreTold = (K : Kind) (o : Opening) (c c' : Chip) (e : Event) → Step K o c e c'
     → ((e.answer ≡ Err Refusal.ArrayFailed) ↔ (e.failed ≡ true)) × (e.answer ≡ Err Refusal.ArrayFailed → c'.memory ≡ c.memory)
+
+-- register, WP and lock are as before
+pub record Kept (c c' : Chip) : Type 0 where
+  pub register : c'.control.register ≡ c.control.register
+  pub wp : c'.control.wp ≡ c.control.wp
+  pub tight : c'.control.tight ≡ c.control.tight
+  pub range : c'.control.range ≡ c.control.range
+
+-- Settle on a busy chip: busy has ended and read gives the status; it is answered 0, or 13 if the array failed, and the fail bit says so.
+pub record Settled (c : Chip) (e : Event) (c' : Chip) : Type 0 where
+  pub answer : e.answer ≡ unless e.failed Refusal.ArrayFailed done
+  pub status : c'.control.state ≡ State.Status
+  pub fail : c'.control.fail ≡ e.failed
+  pub pointer : c'.control.pointer ≡ c.control.pointer
+  pub kept : Kept c c'
+
+abbrev pub SettleEndsBusy : Type 0
+SettleEndsBusy = (K : Kind) (o : Opening) (c c' : Chip) (e : Event) → Step K o c e c' → is_dead K o c.memory.holds.shape ≡ false
+    → is_busy c.control.state ≡ true → e.call ≡ Call.Settle → Settled c e c'
+
+-- FFh: it is answered 0, or 13 if the array failed; either way the fail bit is 0, the pointer is A, and the chip waits as after 00h.
+pub record WasReset (c : Chip) (e : Event) (c' : Chip) : Type 0 where
+  pub answer : e.answer ≡ unless e.failed Refusal.ArrayFailed done
+  pub waits : c'.control.state ≡ State.Column Purpose.Read
+  pub fail : c'.control.fail ≡ false
+  pub pointer : c'.control.pointer ≡ Pointer.A
+  pub kept : Kept c c'
+
+abbrev pub ResetAlwaysResets : Type 0
+ResetAlwaysResets = (K : Kind) (o : Opening) (c c' : Chip) (e : Event) → Step K o c e c' → is_dead K o c.memory.holds.shape ≡ false
+    → e.call ≡ Call.Command 0xFF → WasReset c e c'
 
 abbrev pub LookChangesNothing : Type 0
 LookChangesNothing = (K : Kind) (o : Opening) (c c' : Chip) (e : Event) (row column : ℕ) → Step K o c e c'
@@ -88,3 +121,8 @@ pub record RowsCountLowFirst : Type 0 where
   pub three : (p : Part) (low middle high : ℕ)
       → next_row p (next_row p (next_row p 0 0 low) 1 middle) 2 high ≡ (low + 256 * middle + 65536 * high) % most_rows p
   pub two : (p : Part) (low high : ℕ) → next_row p (next_row p 0 0 low) 1 high ≡ (low + 256 * high) % most_rows p
+
+-- every code of the register is lawful
+abbrev pub RegisterIsLawful : Type 0
+RegisterIsLawful = (K : Kind) → KindLaws K → (o : Opening) (m : Meaning) (es : List Event) (c : Chip) → New K m.holds → Runs K o (opened K m) es c
+    → all_lawful K c.control.register.codes ≡ true

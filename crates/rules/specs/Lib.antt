@@ -10,3 +10,4 @@ pub mod Equality
 pub mod Conduct
 pub mod Bench
 pub mod Tour
+pub mod Further

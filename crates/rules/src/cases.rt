@@ -1,6 +1,7 @@
 // The worked cases, as one theorem.
 ghost use Rattle.rules.specs.Bench.{Bench, PlayIsARun};
 ghost use Rattle.rules.specs.Tour.{Tour};
+ghost use Rattle.rules.specs.Further.{Further};
 
 // What calls are answered on new chips, computed from the rules.
 pub fn bench_cases()
@@ -15,4 +16,9 @@ pub fn play_is_a_run()
 // More of them: every command, and every refusal that a chip gives.
 pub fn more_cases()
     ensures { Tour }
+{}
+
+// More of area B, and a copy-back that is cut off.
+pub fn further_cases()
+    ensures { Further }
 {}

@@ -1,5 +1,5 @@
 // Laws of the rules themselves. A theorem is the promise of a function that does nothing else.
-ghost use Rattle.rules.specs.Conduct.{LowRefusalsChangeNothing, RefusedStarts, FailuresAreTold, LookChangesNothing, DeadChipsAnswer1, OnlyLandingsChangeCells, TightIsClosed, RegisterIsErasedBeyond, OnlyTheUnwillingFail, RowsCountLowFirst};
+ghost use Rattle.rules.specs.Conduct.{LowRefusalsChangeNothing, RefusedStarts, FailuresAreTold, SettleEndsBusy, ResetAlwaysResets, LookChangesNothing, DeadChipsAnswer1, OnlyLandingsChangeCells, TightIsClosed, RegisterIsErasedBeyond, RegisterIsLawful, OnlyTheUnwillingFail, RowsCountLowFirst};
 
 // Refusals 1 to 9 change nothing at all.
 pub fn low_refusals_change_nothing()
@@ -14,6 +14,16 @@ pub fn refused_starts()
 // A call is answered 13 exactly when the array failed at it, and then the array is unchanged.
 pub fn failures_are_told()
     ensures { FailuresAreTold }
+{}
+
+// Settle on a busy chip is answered 0 or 13; busy has ended, the fail bit says which, and read gives the status.
+pub fn settle_ends_busy()
+    ensures { SettleEndsBusy }
+{}
+
+// FFh clears the fail bit, sets the pointer to A and waits as after 00h, also where it is answered 13.
+pub fn reset_always_resets()
+    ensures { ResetAlwaysResets }
 {}
 
 pub fn look_changes_nothing()
@@ -38,6 +48,11 @@ pub fn tight_is_closed()
 // The register keeps its 528 places, and those beyond the part's columns stay erased.
 pub fn register_is_erased_beyond()
     ensures { RegisterIsErasedBeyond }
+{}
+
+// Every code of the register of a chip that was opened new is lawful.
+pub fn register_is_lawful()
+    ensures { RegisterIsLawful }
 {}
 
 // The array of a chip that was opened new fails only where its row or block is not willing.

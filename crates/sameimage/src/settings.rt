@@ -1,8 +1,8 @@
 // What the arguments ask for: a word that is a part's name chooses the part, a number the number of blocks, and all others are files.
-ghost use Rattle.std.specs.Prelude.{◌≡◌, ℕ, ◌<◌, ◌≤◌, MatchOption, ◌≢◌};
+ghost use Rattle.std.specs.Prelude.{◌≡◌, ℕ, ◌<◌, ◌≤◌, MatchOption, IfOk, ◌≢◌};
 ghost use Rattle.rules.specs.declared.part.Part.{Part};
 ghost use Rattle.rules.specs.Parts.{most_blocks};
-ghost use Rattle.sameimage.specs.Chosen.{part_name, chosen_blocks};
+ghost use Rattle.sameimage.specs.Chosen.{part_name, chosen_blocks, Chosen};
 
 use anyhow::anyhow;
 use rules::part::Part;
@@ -50,7 +50,9 @@ fn blocks_of(part: Part, asked: Option<u32>) -> Option<u32>
 pub fn take_settings(
     heap: Global,
     arguments: Vec<String>,
-) -> anyhow::Result<(Vec<String>, Settings)> {
+) -> anyhow::Result<(Vec<String>, Settings)>
+    ensures { IfOk result (λ p. Chosen p.1.part p.1.blocks) }
+{
     let mut names = Vec::new(heap);
     let mut part = Part::K9K1208;
     let mut asked = None;

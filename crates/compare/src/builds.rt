@@ -1,0 +1,65 @@
+// Two builds of an image: two traces, each on a new chip over the caller's memory.
+ghost use Rattle.std.specs.Prelude.{◌≡◌, ℕ, map, length, IfOk, IfErr};
+ghost use Rattle.words.specs.Kind.{Kind};
+ghost use Rattle.arrays.specs.Flat.{flat, flat_shape};
+ghost use Rattle.rules.specs.Parts.{columns};
+ghost use Rattle.chip.specs.Calls.{seen};
+ghost use Rattle.compare.specs.Errors.{TracesRefused};
+ghost use Rattle.compare.specs.Built.{Built, new_chip};
+
+use crate::compare::Comparison;
+use crate::error::CompareError;
+use crate::traces::compare_traces;
+use arrays::{CellArray, FlatArray};
+use chip::Chip;
+use rules::control::Opening;
+use std::alloc::Global;
+use words::Word;
+
+// What came of two builds: the comparison, and both chips as they are then.
+#[derive(Drop)]
+pub struct Builds<'a, W> {
+    pub comparison: Comparison,
+    pub one: Chip<FlatArray<'a, W>>,
+    pub other: Chip<FlatArray<'a, W>>,
+}
+
+// A new chip over the memory, for the columns of the part.
+fn open_new<'a, W: Word>(
+    opening: Opening,
+    words: &'a mut [W],
+    counts: &'a mut [u8],
+) -> Chip<FlatArray<'a, W>>
+    ensures opening { result.opening ≡ opening }
+    ensures new { (seen (λ x. flat W.kind x.columns (map W.code x.words.now) x.counts.now) result) ≡ new_chip W.kind (flat_shape (columns opening.part) (map W.code words.old) counts.old) }
+{
+    let columns = opening.part.columns() as usize;
+    Chip::open(opening, FlatArray::new(words, counts, columns))
+}
+
+// Opens two chips alike over the memory, reads both traces, plays the calls of each on its chip, and answers both verdicts and both chips.
+pub fn compare_builds<'a, W: Word>(
+    heap: Global,
+    opening: Opening,
+    words: &'a mut [W],
+    counts: &'a mut [u8],
+    trace: &[u8],
+    other_words: &'a mut [W],
+    other_counts: &'a mut [u8],
+    other_trace: &[u8],
+) -> Result<Builds<'a, W>, CompareError>
+    ensures built { IfOk result (λ v. Built W.kind opening (flat_shape (columns opening.part) (map W.code words.old) counts.old) (flat_shape (columns opening.part) (map W.code other_words.old) other_counts.old) trace.now v.comparison.answers.items (seen (λ x. flat W.kind x.columns (map W.code x.words.now) x.counts.now) v.one) other_trace.now v.comparison.other_answers.items (seen (λ x. flat W.kind x.columns (map W.code x.words.now) x.counts.now) v.other) v.comparison.answers_equal v.comparison.cells_equal) }
+    ensures opening { IfOk result (λ v. (v.one.opening ≡ opening) × (v.other.opening ≡ opening)) }
+    ensures error { IfErr result (λ e. TracesRefused (flat_shape (columns opening.part) (map W.code words.old) counts.old).blocks trace.now other_trace.now e) }
+{
+    let mut one = open_new(opening, words, counts);
+    let mut other = open_new(opening, other_words, other_counts);
+    match compare_traces(heap, &mut one, trace, &mut other, other_trace) {
+        Ok(comparison) => Ok(Builds {
+            comparison,
+            one,
+            other,
+        }),
+        Err(error) => Err(error),
+    }
+}
