@@ -1,5 +1,5 @@
 -- What an array holds after it was asked for something. Assumes nothing.
-use Rattle.std.proofs.Common.{◌≡◌, ℕ, ◌<◌, Bool, true, false, cond, ◌&&◌, eqb, ltb, sym, refl, ⊎_elim, arith}
+use Rattle.std.proofs.Common.{◌≡◌, ℕ, ◌<◌, true, false, cond, ◌&&◌, eqb, ltb, sym, refl, ⊎_elim, arith}
 use Rattle.std.proofs.lemmas.Bool.{and_parts, and_cases, cond_both, ltb-true, ltb-false, eqb-true, eqb-false, both_ways}
 use Rattle.words.specs.Kind.{Kind}
 use Rattle.arrays.specs.Meaning.{Shape, Contents, Meaning, Operation, accepts, performed, Performs}

@@ -1,8 +1,8 @@
 -- A program of a row in the second array of a stack. Assumes nothing.
-use Rattle.std.proofs.Common.{◌≡◌, ℕ, ◌+◌, ◌-◌, ◌*◌, ◌<◌, ◌≤◌, min, Bool, true, false, cond, ◌&&◌, eqb, ltb, ◌⊎◌, List, length, get_or, sym, refl, ap, ◌∙◌, ap₂, inl, inr, ⊎_elim, arith}
+use Rattle.std.proofs.Common.{◌≡◌, ℕ, ◌-◌, ◌*◌, ◌<◌, ◌≤◌, Bool, true, false, cond, ◌&&◌, eqb, ltb, List, length, get_or, sym, refl, ap, ◌∙◌, ap₂, ⊎_elim, arith}
 use Rattle.std.proofs.lemmas.Bool.{cond-true, cond-false, lt-ltb, le-ltb, eqb-true, eq-eqb, ne_eqb, and_left, cases_lt, cases_eq, cases_Bool}
 use Rattle.words.specs.Kind.{Kind, all_lawful}
-use Rattle.arrays.specs.Meaning.{Shape, Contents, Meaning, programs, accepts, asked, performed, counted, Performs}
+use Rattle.arrays.specs.Meaning.{Shape, Contents, Meaning, programs, asked, performed, counted, Performs}
 use Rattle.arrays.specs.Stack.{stack, stack_blocks, stack_contents, at_row}
 use Rattle.arrays.proofs.Asked.{contents_same}
 

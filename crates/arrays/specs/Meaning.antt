@@ -1,5 +1,5 @@
 -- What an array of cells means, and what is asked of it. Assumes nothing.
-use Rattle.std.specs.Prelude.{◌≡◌, ℕ, ◌+◌, ◌*◌, ◌/◌, ◌<◌, ◌≤◌, min, Bool, true, false, cond, ◌&&◌, List, [], ◌∷◌, length, ◌==◌, nat_lt, slice_index_or}
+use Rattle.std.specs.Prelude.{◌≡◌, ℕ, ◌+◌, ◌*◌, ◌/◌, ◌<◌, ◌≤◌, min, Bool, true, false, cond, ◌&&◌, List, length, ◌==◌, nat_lt, slice_index_or}
 use Rattle.words.specs.Kind.{Kind, all_lawful}
 
 pub record Shape : Type 0 where

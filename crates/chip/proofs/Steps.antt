@@ -3,7 +3,7 @@ use Rattle.std.proofs.Common.{◌≡◌, ℕ, Bool, true, false, cond, not, List
 use Rattle.refusals.specs.declared.Refusal.{Refusal}
 use Rattle.records.specs.declared.call.Call.{Call}
 use Rattle.words.specs.Kind.{Kind}
-use Rattle.arrays.specs.Meaning.{Operation, nothing, accepts, Performs}
+use Rattle.arrays.specs.Meaning.{nothing, accepts, Performs}
 use Rattle.rules.specs.declared.part.Part.{Part}
 use Rattle.rules.specs.declared.state.Work.{Work}
 use Rattle.rules.specs.declared.control.Opening.{Opening}

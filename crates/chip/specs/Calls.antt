@@ -7,7 +7,6 @@ use Rattle.words.specs.Kind.{Kind}
 use Rattle.arrays.specs.Meaning.{Meaning, Contents, Operation, nothing, programs, fills, accepts, Performs}
 use Rattle.rules.specs.declared.part.Part.{Part}
 use Rattle.rules.specs.declared.state.Work.{Work}
-use Rattle.rules.specs.declared.command.Command.{Command}
 use Rattle.rules.specs.declared.control.Opening.{Opening}
 use Rattle.rules.specs.declared.control.Control.{Control}
 use Rattle.rules.specs.Parts.{columns}

@@ -1,15 +1,14 @@
 -- Parts of a call, on a chip that is not dead: what each is answered, and the control after it. Assumes nothing.
-use Rattle.std.specs.Prelude.{◌≡◌, ℕ, ◌+◌, Bool, cond, not, List, Option, nat_lt}
+use Rattle.std.specs.Prelude.{◌≡◌, ℕ, ◌+◌, Bool, cond, not, Option, nat_lt}
 use Rattle.refusals.specs.declared.Refusal.{Refusal}
 use Rattle.words.specs.Kind.{Kind}
 use Rattle.arrays.specs.Meaning.{Contents, Meaning, Operation, nothing, Performs, rows}
-use Rattle.rules.specs.declared.part.Part.{Part}
 use Rattle.rules.specs.declared.command.Command.{Command}
 use Rattle.rules.specs.declared.state.Aim.{Aim}
 use Rattle.rules.specs.declared.state.State.{State}
 use Rattle.rules.specs.declared.control.Opening.{Opening}
 use Rattle.rules.specs.declared.control.Control.{Control}
-use Rattle.rules.specs.Parts.{columns, is_last, next_row}
+use Rattle.rules.specs.Parts.{is_last, next_row}
 use Rattle.rules.specs.Controls.{with_state}
 use Rattle.rules.specs.Answering.{Answer, unless, done, answer_row, answer_cycle}
 use Rattle.rules.specs.Asking.{none, cycle_ending}

@@ -1,19 +1,18 @@
 -- Two runs and two verdicts make a comparison: the laws of equality at these runs. Assumes nothing.
-use Rattle.std.proofs.Common.{◌≡◌, ℕ, Bool, true, ◌↔◌, List, Decides, sym, refl, ap, ◌∙◌, subst}
+use Rattle.std.proofs.Common.{◌≡◌, ℕ, Bool, true, ◌↔◌, List, Decides, sym, ◌∙◌, subst}
 use Rattle.records.specs.declared.call.Call.{Call}
 use Rattle.words.specs.Kind.{Kind, KindLaws}
-use Rattle.arrays.specs.Meaning.{Shape, Contents, Meaning, New}
+use Rattle.arrays.specs.Meaning.{Meaning}
 use Rattle.rules.specs.declared.control.Opening.{Opening}
 use Rattle.rules.specs.declared.control.Control.{Control}
 use Rattle.rules.specs.Controls.{fresh}
 use Rattle.rules.specs.Answering.{Answer}
 use Rattle.rules.specs.Running.{Chip, Event, Runs, after, calls, answers, failures, opened, Alike}
-use Rattle.rules.specs.Written.{Landing}
-use Rattle.rules.specs.Equality.{SameCells, SameLowest, LogOf, OneLog}
+use Rattle.rules.specs.Equality.{SameCells, OneLog}
 use Rattle.rules.proofs.Logs.{law_of_cells, logs_exist}
 use Rattle.rules.proofs.Failures.{law_of_failures}
 use Rattle.compare.specs.Played.{Played}
-use Rattle.compare.specs.Compared.{shape_of, EqualCells, OpenedNew, BothNew, CellsLaw, FailuresLaw, Compared}
+use Rattle.compare.specs.Compared.{shape_of, EqualCells, BothNew, CellsLaw, Compared}
 use Rattle.compare.proofs.Runs.{run_shape}
 
 -- a chip with any control, and the memory

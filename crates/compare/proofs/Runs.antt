@@ -1,11 +1,11 @@
 -- Runs: one step more at the end, and the shape, which stays. Assumes nothing.
-use Rattle.std.proofs.Common.{◌≡◌, not, List, [], ◌∷◌, ◌++◌, map, sym, refl, ap, ◌∙◌, subst}
+use Rattle.std.proofs.Common.{◌≡◌, not, List, [], ◌∷◌, ◌++◌, refl, ap, ◌∙◌}
 use Rattle.std.proofs.lemmas.List.{map-append}
 use Rattle.records.specs.declared.call.Call.{Call}
 use Rattle.words.specs.Kind.{Kind}
 use Rattle.rules.specs.declared.control.Opening.{Opening}
 use Rattle.rules.specs.Answering.{Answer}
-use Rattle.rules.specs.Running.{Chip, Event, Step, Runs, stop, next, calls, answers}
+use Rattle.rules.specs.Running.{Chip, Event, Step, Runs, stop, next}
 use Rattle.rules.proofs.Landed.{shape_kept}
 use Rattle.compare.specs.Played.{Played}
 use Rattle.compare.specs.Compared.{shape_of}

@@ -1,10 +1,10 @@
 -- A trace whose first bytes are a mark and its payload begins with the record of a call. Assumes nothing.
-use Rattle.std.proofs.Common.{◌≡◌, ℕ, zero, suc, ◌+◌, ◌*◌, ◌/◌, ◌%◌, ◌<◌, ◌≤◌, Bool, true, false, cond, ◌&&◌, eqb, List, [], ◌∷◌, ◌++◌, length, get_or, take, drop, Some, None, sym, refl, ap, ◌∙◌, subst, arith, length-append, lt-ltb, eqb-true}
+use Rattle.std.proofs.Common.{◌≡◌, ℕ, zero, suc, ◌+◌, ◌*◌, ◌/◌, ◌%◌, ◌<◌, ◌≤◌, Bool, true, false, cond, eqb, List, [], ◌∷◌, ◌++◌, length, get_or, drop, Some, None, sym, refl, ap, ◌∙◌, arith, length-append, lt-ltb, eqb-true}
 use Rattle.std.proofs.lemmas.List.{drop_more, take_rest}
 use Rattle.std.proofs.lemmas.Bool.{and_parts}
 use Rattle.records.specs.declared.call.Call.TheVariants.{Command, Address, Write, Read, Protect, Settle, Look}
 use Rattle.records.specs.declared.call.Call.{Call}
-use Rattle.records.specs.Matches.{Marked, Matched, past}
+use Rattle.records.specs.Matches.{Matched, past}
 use Rattle.records.specs.Records.{First, record_of, byte_payload, code_payload, place_payload, marks, first, Begins}
 use Rattle.records.proofs.Firsts.{first_joined}
 

@@ -1,8 +1,8 @@
 -- Joined records are read as their calls. Assumes nothing.
-use Rattle.std.proofs.Common.{◌≡◌, ℕ, zero, suc, ◌+◌, ◌-◌, ◌<◌, ◌≤◌, true, false, List, [], ◌∷◌, ◌++◌, length, take, drop, Some, None, Ok, Err, sym, refl, ap, ◌∙◌, subst, append_assoc, append-nil, arith, length-append}
+use Rattle.std.proofs.Common.{◌≡◌, ℕ, zero, suc, ◌+◌, ◌-◌, ◌<◌, ◌≤◌, List, [], ◌∷◌, ◌++◌, length, None, Ok, Err, sym, refl, ap, ◌∙◌, append_assoc, append-nil, arith, length-append}
 use Rattle.records.specs.declared.call.Call.{Call}
-use Rattle.records.specs.Records.{First, record_of, writable, first}
-use Rattle.records.specs.Readings.{joined, Reading, all_writable, Outcome, after, at_end, go_on, read_most, reading}
+use Rattle.records.specs.Records.{First, record_of, first}
+use Rattle.records.specs.Readings.{joined, Reading, Outcome, after, at_end, go_on, read_most, reading}
 use Rattle.records.proofs.Begun.{two_or_more}
 use Rattle.records.proofs.Firsts.{first_joined}
 

@@ -1,5 +1,5 @@
 -- What one turn of the reader keeps, and what its ends come to. Assumes nothing.
-use Rattle.std.proofs.Common.{◌≡◌, ℕ, ◌+◌, ◌-◌, ◌<◌, ◌≤◌, Bool, true, false, ◌&&◌, eqb, List, [], ◌∷◌, ◌++◌, length, take, drop, is_some, Some, None, Ok, Err, sym, refl, ap, ◌∙◌, subst, append_assoc, append-nil, arith, length-append, true-eqb, false-eqb}
+use Rattle.std.proofs.Common.{◌≡◌, ℕ, ◌-◌, ◌<◌, ◌≤◌, true, false, eqb, List, [], ◌∷◌, ◌++◌, length, take, drop, is_some, Some, None, Ok, Err, sym, refl, ap, ◌∙◌, append_assoc, append-nil, arith, length-append, true-eqb, false-eqb}
 use Rattle.std.proofs.lemmas.List.{take_at, drop_at, nil_from_length}
 use Rattle.std.proofs.lemmas.Bool.{and_parts, and_from}
 use Rattle.records.specs.declared.call.Call.{Call}

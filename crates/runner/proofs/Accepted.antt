@@ -1,15 +1,14 @@
 -- An accepted trace with room for its results is played whole. Assumes nothing.
-use Rattle.std.proofs.Common.{◌≡◌, ℕ, ◌+◌, ◌-◌, ◌*◌, ◌<◌, ◌≤◌, List, [], ◌∷◌, ◌++◌, length, drop, Some, None, sym, refl, ap, ◌∙◌, subst, arith, length-append}
+use Rattle.std.proofs.Common.{◌≡◌, ℕ, ◌*◌, ◌≤◌, List, [], ◌∷◌, ◌++◌, length, drop, Some, None, sym, refl, ap, ◌∙◌, arith, length-append}
 use Rattle.records.specs.declared.call.Call.{Call}
 use Rattle.records.specs.Records.{First, record_of, first}
 use Rattle.records.specs.Readings.{joined}
 use Rattle.records.proofs.Firsts.{first_joined}
 use Rattle.words.specs.Kind.{Kind}
 use Rattle.rules.specs.declared.control.Opening.{Opening}
-use Rattle.rules.specs.Answering.{Answer}
-use Rattle.rules.specs.Running.{Chip, Event, Step, Runs, stop, next, calls, answers}
+use Rattle.rules.specs.Running.{Chip, Event, Runs, stop, next, calls, answers}
 use Rattle.runner.specs.Results.{result_bytes, all_results}
-use Rattle.runner.specs.Played.{Plays, full, ended, bad, one, Ran, PlayedAll, AcceptedIsPlayed}
+use Rattle.runner.specs.Played.{Plays, full, ended, bad, one, Ran, AcceptedIsPlayed}
 use Rattle.runner.proofs.Turns.{four}
 
 -- how an accepted trace was played

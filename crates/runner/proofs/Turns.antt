@@ -9,7 +9,7 @@ use Rattle.rules.specs.declared.control.Opening.{Opening}
 use Rattle.rules.specs.Answering.{Answer}
 use Rattle.rules.specs.Running.{Chip, Event, Step}
 use Rattle.runner.specs.Results.{result_bytes, bad_bytes}
-use Rattle.runner.specs.Played.{Plays, full, ended, bad, one, Ran}
+use Rattle.runner.specs.Played.{Plays, ended, bad, one, Ran}
 
 pub four : (a : Answer) → length (result_bytes a) ≡ 4
 four (Ok v) = refl

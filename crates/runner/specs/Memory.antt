@@ -1,5 +1,5 @@
 -- What running a trace on a chip over the caller's memory comes to. Assumes nothing.
-use Rattle.std.specs.Prelude.{◌≡◌, ℕ, List}
+use Rattle.std.specs.Prelude.{ℕ, List}
 use Rattle.words.specs.Kind.{Kind}
 use Rattle.arrays.specs.Meaning.{Meaning, new_contents, always_willing}
 use Rattle.arrays.specs.Flat.{flat, flat_shape, Beyond}

@@ -1,5 +1,5 @@
 -- A kind of word: a row of cells with ordered levels, and the laws that every kind keeps. Assumes nothing.
-use Rattle.std.specs.Prelude.{◌≡◌, ℕ, ◌<◌, ◌≤◌, min, Bool, true, false, ◌&&◌, List, [], ◌∷◌}
+use Rattle.std.specs.Prelude.{◌≡◌, ℕ, ◌<◌, ◌≤◌, min, Bool, true, ◌&&◌, List, [], ◌∷◌}
 
 pub record Kind : Type 0 where
   -- how many cells a word has, and the highest level of a cell; 0 is the lowest

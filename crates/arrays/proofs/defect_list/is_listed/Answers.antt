@@ -1,4 +1,4 @@
-use Rattle.std.proofs.Common.{◌≡◌, ℕ, Bool, ◌||◌, eqb, List, get_or, take, sym, ap, ◌∙◌, take_all}
+use Rattle.std.proofs.Common.{ℕ, Bool, ◌||◌, eqb, List, get_or, take, sym, ap, ◌∙◌, take_all}
 use Rattle.std.proofs.lemmas.List.{take_more}
 use Rattle.arrays.specs.Defect.{listed}
 use Rattle.arrays.proofs.Listed.{listed_more}

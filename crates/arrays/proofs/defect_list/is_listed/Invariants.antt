@@ -1,4 +1,4 @@
-use Rattle.std.proofs.Common.{◌≡◌, ◌≤◌, length, take}
+use Rattle.std.proofs.Common.{◌≡◌, take}
 use Rattle.arrays.specs.Defect.{listed}
 use Rattle.arrays.proofs.defect_list.is_listed.Given as goal
 

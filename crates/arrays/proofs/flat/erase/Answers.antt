@@ -1,5 +1,4 @@
 use Rattle.std.proofs.Common.{◌≡◌, ℕ, ◌*◌, min, map, length, ◌∙◌, subst, arith}
-use Rattle.std.proofs.lemmas.List.{length-map}
 use Rattle.arrays.specs.Flat.{flat_blocks, Put}
 use Rattle.arrays.proofs.Flats.{places, blocks_few, blocks_fit, blocks_of_codes, flat_erased}
 use Rattle.arrays.proofs.flat.erase.Goals as goal

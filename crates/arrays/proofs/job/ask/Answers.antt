@@ -1,4 +1,4 @@
-use Rattle.std.proofs.Common.{◌≡◌, ℕ, map, sym, ap, ◌∙◌}
+use Rattle.std.proofs.Common.{ℕ, map, sym, ap, ◌∙◌}
 use Rattle.arrays.specs.Meaning.{Contents, Operation, programs, fills, accepts, asked, always_willing}
 use Rattle.arrays.specs.Flat.{flat_contents}
 use Rattle.arrays.proofs.Rests.{same_words_name, same_counts_name, same_columns, rest_beyond}

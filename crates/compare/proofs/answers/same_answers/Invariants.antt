@@ -1,4 +1,4 @@
-use Rattle.std.proofs.Common.{◌≡◌, ℕ, ◌<◌, length, get_or, Ok}
+use Rattle.std.proofs.Common.{◌≡◌, ℕ, ◌<◌, get_or, Ok}
 use Rattle.compare.proofs.answers.same_answers.Given as goal
 
 abbrev pub invariant-loop-i : goal.invariant-loop-i

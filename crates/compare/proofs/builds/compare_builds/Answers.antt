@@ -1,4 +1,4 @@
-use Rattle.std.proofs.Common.{◌≡◌, map, vec_items, ◌∙◌, subst}
+use Rattle.std.proofs.Common.{map, vec_items, ◌∙◌, subst}
 use Rattle.arrays.specs.Meaning.{Meaning}
 use Rattle.arrays.specs.Flat.{flat, flat_shape}
 use Rattle.arrays.specs.declared.flat.FlatArray.{FlatArray}

@@ -1,4 +1,4 @@
-use Rattle.std.proofs.Common.{◌≡◌, ◌*◌, add-mul, arith}
+use Rattle.std.proofs.Common.{◌*◌, add-mul, arith}
 use Rattle.compare.proofs.Counts.{rows_more}
 use Rattle.compare.proofs.cells.apart_in_block.Goals as goal
 

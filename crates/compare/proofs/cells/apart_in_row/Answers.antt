@@ -1,4 +1,4 @@
-use Rattle.std.proofs.Common.{◌≡◌, ℕ, true, false, sym, ◌∙◌, arith}
+use Rattle.std.proofs.Common.{ℕ, true, false, sym, ◌∙◌, arith}
 use Rattle.compare.proofs.Counts.{apart_more}
 use Rattle.compare.proofs.cells.apart_in_row.Goals as goal
 use Rattle.compare.proofs.cells.apart_in_row.Goals.{then-not-is_same, else-not-is_same}

@@ -1,4 +1,4 @@
-use Rattle.std.proofs.Common.{◌≡◌, ℕ, ◌<◌, List, length, get_or, IfSome, Some, None, Option, sym, arith, Bor}
+use Rattle.std.proofs.Common.{◌≡◌, ℕ, ◌<◌, List, length, get_or, IfSome, Some, None, Option, arith, Bor}
 use Rattle.std.specs.Option.{option_map}
 use Rattle.records.specs.declared.call.Call.{Call}
 use Rattle.records.specs.Matches.{Matched}

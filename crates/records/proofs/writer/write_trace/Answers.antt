@@ -1,4 +1,4 @@
-use Rattle.std.proofs.Common.{◌≡◌, ℕ, ◌-◌, length, get_or, Some, Option, subst}
+use Rattle.std.proofs.Common.{◌≡◌, ℕ, ◌-◌, get_or, Some, Option, subst}
 use Rattle.records.specs.declared.call.Call.TheVariants.{Command}
 use Rattle.records.specs.Writings.{size_in}
 use Rattle.records.proofs.Turns.{turn_first, turn_more}

@@ -1,4 +1,4 @@
-use Rattle.std.proofs.Common.{◌≡◌, ◌<◌, length, add-one, take-suc-set, rules}
+use Rattle.std.proofs.Common.{◌<◌, length, add-one, take-suc-set, rules}
 use Rattle.arrays.proofs.defect_list.DefectList.push.Goals as goal
 
 pub returns : goal.returns
