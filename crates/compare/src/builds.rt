@@ -1,7 +1,7 @@
 // Two builds of an image: two traces, each on a new chip over the caller's memory.
 ghost use Rattle.std.specs.Prelude.{◌≡◌, ℕ, map, length, IfOk, IfErr};
 ghost use Rattle.words.specs.Kind.{Kind};
-ghost use Rattle.arrays.specs.Flat.{flat, flat_shape};
+ghost use Rattle.arrays.specs.Flat.{flat, flat_shape, Beyond};
 ghost use Rattle.rules.specs.Parts.{columns};
 ghost use Rattle.chip.specs.Calls.{seen};
 ghost use Rattle.compare.specs.Errors.{TracesRefused};
@@ -31,13 +31,16 @@ fn open_new<'a, W: Word>(
     counts: &'a mut [u8],
 ) -> Chip<FlatArray<'a, W>>
     ensures opening { result.opening ≡ opening }
+    ensures columns { result.array.columns ≡ columns opening.part }
+    ensures beyond { Beyond (columns opening.part) (map W.code words.old) counts.old (map W.code result.array.words.now) result.array.counts.now }
     ensures new { (seen (λ x. flat W.kind x.columns (map W.code x.words.now) x.counts.now) result) ≡ new_chip W.kind (flat_shape (columns opening.part) (map W.code words.old) counts.old) }
 {
     let columns = opening.part.columns() as usize;
     Chip::open(opening, FlatArray::new(words, counts, columns))
 }
 
-// Opens two chips alike over the memory, reads both traces, plays the calls of each on its chip, and answers both verdicts and both chips.
+// Opens two chips alike over the memory, reads both traces, plays the calls of each on its chip, and answers both verdicts and both chips. What
+// the memory holds beyond the shape stays. An error leaves the memory erased, and what else it holds is not promised.
 pub fn compare_builds<'a, W: Word>(
     heap: Global,
     opening: Opening,
@@ -50,6 +53,8 @@ pub fn compare_builds<'a, W: Word>(
 ) -> Result<Builds<'a, W>, CompareError>
     ensures built { IfOk result (λ v. Built W.kind opening (flat_shape (columns opening.part) (map W.code words.old) counts.old) (flat_shape (columns opening.part) (map W.code other_words.old) other_counts.old) trace.now v.comparison.answers.items (seen (λ x. flat W.kind x.columns (map W.code x.words.now) x.counts.now) v.one) other_trace.now v.comparison.other_answers.items (seen (λ x. flat W.kind x.columns (map W.code x.words.now) x.counts.now) v.other) v.comparison.answers_equal v.comparison.cells_equal) }
     ensures opening { IfOk result (λ v. (v.one.opening ≡ opening) × (v.other.opening ≡ opening)) }
+    ensures beyond { IfOk result (λ v. Beyond (columns opening.part) (map W.code words.old) counts.old (map W.code v.one.array.words.now) v.one.array.counts.now) }
+    ensures other_beyond { IfOk result (λ v. Beyond (columns opening.part) (map W.code other_words.old) other_counts.old (map W.code v.other.array.words.now) v.other.array.counts.now) }
     ensures error { IfErr result (λ e. TracesRefused (flat_shape (columns opening.part) (map W.code words.old) counts.old).blocks trace.now other_trace.now e) }
 {
     let mut one = open_new(opening, words, counts);

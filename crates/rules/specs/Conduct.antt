@@ -48,7 +48,7 @@ pub record Kept (c c' : Chip) : Type 0 where
   pub tight : c'.control.tight ≡ c.control.tight
   pub range : c'.control.range ≡ c.control.range
 
--- Settle on a busy chip: busy has ended and read gives the status; it is answered 0, or 13 if the array failed, and the fail bit says so.
+-- Settle on a busy chip that is not dead: busy has ended and read gives the status; it is answered 0, or 13 if the array failed, and the fail bit says so.
 pub record Settled (c : Chip) (e : Event) (c' : Chip) : Type 0 where
   pub answer : e.answer ≡ unless e.failed Refusal.ArrayFailed done
   pub status : c'.control.state ≡ State.Status
@@ -60,7 +60,7 @@ abbrev pub SettleEndsBusy : Type 0
 SettleEndsBusy = (K : Kind) (o : Opening) (c c' : Chip) (e : Event) → Step K o c e c' → is_dead K o c.memory.holds.shape ≡ false
     → is_busy c.control.state ≡ true → e.call ≡ Call.Settle → Settled c e c'
 
--- FFh: it is answered 0, or 13 if the array failed; either way the fail bit is 0, the pointer is A, and the chip waits as after 00h.
+-- FFh on a chip that is not dead: it is answered 0, or 13 if the array failed; either way the fail bit is 0, the pointer is A, and the chip waits as after 00h.
 pub record WasReset (c : Chip) (e : Event) (c' : Chip) : Type 0 where
   pub answer : e.answer ≡ unless e.failed Refusal.ArrayFailed done
   pub waits : c'.control.state ≡ State.Column Purpose.Read

@@ -20,7 +20,7 @@ pub record Further : Type 0 where
       (Call.Command 0x01 ∷ Call.Command 0x90 ∷ Call.Address 0 ∷ lock_of block_0 ++ unlock block_0 block_0 ++ Call.Command 0x80 ∷ Call.Address 0 ∷ block_0 ++ Call.Write 0x11
       ∷ Call.Command 0x10 ∷ Call.Settle ∷ Call.Look 0 256 ∷ Call.Look 0 0 ∷ [])
       ≡ taken 7 ++ Ok 2 ∷ taken 16 ++ Ok 0x11 ∷ Ok 0xFF ∷ []
-  -- a copy-back that is cut off writes torn forms, closes the page, and leaves the register as it was
+  -- a copy-back that is cut off writes torn forms and closes the page: a word written to it later is refused by 11
   pub cut_copy : on_new doubting_kind K9K1208
       (unlock block_0 block_0 ++ Call.Command 0x80 ∷ Call.Address 0 ∷ block_0 ++ Call.Write 0x0F ∷ Call.Command 0x10 ∷ Call.Settle ∷ Call.Command 0x00 ∷ Call.Address 0 ∷ block_0
       ++ Call.Command 0x8A ∷ Call.Address 0 ∷ Call.Address 1 ∷ Call.Address 0 ∷ Call.Address 0 ∷ Call.Command 0xFF ∷ Call.Look 1 0 ∷ Call.Look 1 1

@@ -16,12 +16,12 @@ pub fn failures_are_told()
     ensures { FailuresAreTold }
 {}
 
-// Settle on a busy chip is answered 0 or 13; busy has ended, the fail bit says which, and read gives the status.
+// On a chip that is not dead, settle in busy is answered 0 or 13; busy has ended, the fail bit says which, and read gives the status.
 pub fn settle_ends_busy()
     ensures { SettleEndsBusy }
 {}
 
-// FFh clears the fail bit, sets the pointer to A and waits as after 00h, also where it is answered 13.
+// On a chip that is not dead, FFh clears the fail bit, sets the pointer to A and waits as after 00h, also where it is answered 13.
 pub fn reset_always_resets()
     ensures { ResetAlwaysResets }
 {}
