@@ -12,10 +12,5 @@ pub fn first_difference<A: CellArray, B: CellArray>(
 ) -> Option<usize>
     ensures { MatchOption result ((k : ℕ) → k < columns → (A.CellArray.meaning one.now).holds.code row k ≡ (B.CellArray.meaning other.now).holds.code row k) (λ at. (at < columns) × ((k : ℕ) → k < at → (A.CellArray.meaning one.now).holds.code row k ≡ (B.CellArray.meaning other.now).holds.code row k) × ((A.CellArray.meaning one.now).holds.code row at ≢ (B.CellArray.meaning other.now).holds.code row at)) }
 {
-    for column in 0..columns {
-        if one.code(row, column) != other.code(row, column) {
-            return Some(column);
-        }
-    }
-    None
+    (0..columns).find(|column| one.code(row, *column) != other.code(row, *column))
 }

@@ -7,6 +7,7 @@ mod show;
 
 use arrays::FlatArray;
 use page::{COLUMNS, part, torn};
+use show::NamedPage;
 use std::alloc::{AllocError, Global};
 use std::io;
 use words::{DoubtingByte, Word};
@@ -20,47 +21,53 @@ fn counts(heap: Global) -> Result<Vec<u8>, AllocError> {
     vec![in heap; 0u8; 32]
 }
 
-// Both parts are programmed as they are.
-fn bytes(rt: &HostRuntime) -> io::Result<()> {
+// Programs both pages in one order and, in other memory, in the other order.
+fn in_both_orders<W: Word + Clone>(
+    rt: &HostRuntime,
+    page: NamedPage,
+    next: NamedPage,
+) -> io::Result<()> {
     let heap = rt.alloc();
-    println!(rt; "Bytes: 0F in columns 0 to 299, 3C in columns 200 to 527")?;
-    let low = part(0, 300, 0x0F, <u8 as Word>::erased().to_code());
-    let high = part(200, 528, 0x3C, <u8 as Word>::erased().to_code());
-    let mut words = block_of_words::<u8>(heap)?;
+    let mut words = block_of_words::<W>(heap)?;
     let mut row_counts = counts(heap)?;
-    let mut other_words = block_of_words::<u8>(heap)?;
+    let mut other_words = block_of_words::<W>(heap)?;
     let mut other_counts = counts(heap)?;
     let mut one = FlatArray::new(&mut words, &mut row_counts, COLUMNS);
     let mut other = FlatArray::new(&mut other_words, &mut other_counts, COLUMNS);
-    show::in_order(rt, &mut one, "0F", &low, "3C", &high)?;
-    show::in_order(rt, &mut other, "3C", &high, "0F", &low)?;
+    show::in_order(rt, &mut one, [page, next])?;
+    show::in_order(rt, &mut other, [next, page])?;
     show::verdict(rt, &one, &other)?;
-    show::filled(rt, &mut one, <u8 as Word>::erased().to_code())
+    show::filled(rt, &mut one, W::erased().to_code())
+}
+
+// Both parts are programmed as they are.
+fn bytes(rt: &HostRuntime) -> io::Result<()> {
+    println!(rt; "Bytes: 0F in columns 0 to 299, 3C in columns 200 to 527")?;
+    let low = NamedPage {
+        name: "0F",
+        codes: &part::<u8>(0..300, 0x0F),
+    };
+    let high = NamedPage {
+        name: "3C",
+        codes: &part::<u8>(200..528, 0x3C),
+    };
+    in_both_orders::<u8>(rt, low, high)
 }
 
 // The second part is interrupted: what it would have cleared is left in doubt.
 fn doubting_bytes(rt: &HostRuntime) -> io::Result<()> {
-    let heap = rt.alloc();
     println!(rt;
         "Doubting bytes: 0F in columns 0 to 299, then 3C in columns 200 to 527, interrupted"
     )?;
-    let low = part(0, 300, 0x0F, <DoubtingByte as Word>::erased().to_code());
-    let high = torn::<DoubtingByte>(part(
-        200,
-        528,
-        0x3C,
-        <DoubtingByte as Word>::erased().to_code(),
-    ));
-    let mut words = block_of_words::<DoubtingByte>(heap)?;
-    let mut row_counts = counts(heap)?;
-    let mut other_words = block_of_words::<DoubtingByte>(heap)?;
-    let mut other_counts = counts(heap)?;
-    let mut one = FlatArray::new(&mut words, &mut row_counts, COLUMNS);
-    let mut other = FlatArray::new(&mut other_words, &mut other_counts, COLUMNS);
-    show::in_order(rt, &mut one, "0F", &low, "torn 3C", &high)?;
-    show::in_order(rt, &mut other, "torn 3C", &high, "0F", &low)?;
-    show::verdict(rt, &one, &other)?;
-    show::filled(rt, &mut one, <DoubtingByte as Word>::erased().to_code())
+    let low = NamedPage {
+        name: "0F",
+        codes: &part::<DoubtingByte>(0..300, 0x0F),
+    };
+    let high = NamedPage {
+        name: "torn 3C",
+        codes: &torn::<DoubtingByte>(part::<DoubtingByte>(200..528, 0x3C)),
+    };
+    in_both_orders::<DoubtingByte>(rt, low, high)
 }
 
 fn main(rt: HostRuntime) -> io::Result<()> {

@@ -3,49 +3,40 @@ ghost use Rattle.std.specs.Prelude.{◌≡◌, ℕ, ◌<◌, slice_index};
 ghost use Rattle.overlap.specs.Pages.{part_code, torn_code};
 ghost use Rattle.words.specs.Kind.{Kind};
 
+use std::array;
+use std::ops::Range;
 use words::Word;
 
 pub const COLUMNS: usize = 528;
 
 // The code that such a page has in a column.
-fn code_at(column: usize, from: usize, to: usize, code: u16, erased: u16) -> u16
-    ensures { result ≡ part_code from to code erased column }
+fn code_at<W: Word>(columns: &Range<usize>, code: u16, column: usize) -> u16
+    ensures { result ≡ part_code columns.now.start columns.now.end code W.kind.erased column }
 {
-    if from <= column && column < to {
+    if columns.contains(&column) {
         code
     } else {
-        erased
+        W::erased().to_code()
     }
 }
 
-// A page with one code from a column on, up to another, and erased elsewhere.
-pub fn part(from: usize, to: usize, code: u16, erased: u16) -> [u16; 528]
-    ensures { (k : ℕ) → k < 528 → slice_index result k ≡ part_code from to code erased k }
+// A page with one code in some columns, and erased elsewhere.
+pub fn part<W: Word>(columns: Range<usize>, code: u16) -> [u16; COLUMNS]
+    ensures { (k : ℕ) → k < 528 → slice_index result k ≡ part_code columns.start columns.end code W.kind.erased k }
 {
-    let mut page = [erased; 528];
-    for column in 0..COLUMNS {
-        page[column] = code_at(column, from, to, code, erased);
-    }
-    page
+    array::from_fn(|column| code_at::<W>(&columns, code, column))
 }
 
 // What an interrupted program writes of a code; an unlawful code stays.
 fn torn_code<W: Word>(c: u16) -> u16
     ensures { result ≡ torn_code W.kind c }
 {
-    match W::from_code(c) {
-        Ok(word) => word.torn().to_code(),
-        Err(_) => c,
-    }
+    W::from_code(c).map_or(c, |word| word.torn().to_code())
 }
 
 // What an interrupted program writes of a page.
-pub fn torn<W: Word>(page: [u16; 528]) -> [u16; 528]
+pub fn torn<W: Word>(page: [u16; COLUMNS]) -> [u16; COLUMNS]
     ensures { (k : ℕ) → k < 528 → slice_index result k ≡ torn_code W.kind (slice_index page k) }
 {
-    let mut written = page;
-    for column in 0..COLUMNS {
-        written[column] = torn_code::<W>(page[column]);
-    }
-    written
+    page.map(|code| torn_code::<W>(code))
 }

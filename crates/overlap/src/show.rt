@@ -7,6 +7,13 @@ use std::io;
 // The row that is programmed.
 const ROW: usize = 7;
 
+// The codes of a page, and what they are called.
+#[derive(Clone, Copy)]
+pub struct NamedPage<'a> {
+    pub name: &'a str,
+    pub codes: &'a [u16],
+}
+
 fn found<A: CellArray>(rt: &HostRuntime, array: &A) -> io::Result<()> {
     let a = array.code(ROW, 0);
     let b = array.code(ROW, 250);
@@ -14,13 +21,9 @@ fn found<A: CellArray>(rt: &HostRuntime, array: &A) -> io::Result<()> {
     println!(rt; "    found {a:04X} at column 0, {b:04X} at column 250, {c:04X} at column 400")
 }
 
-fn program<A: CellArray>(
-    rt: &HostRuntime,
-    array: &mut A,
-    name: &str,
-    codes: &[u16],
-) -> io::Result<()> {
-    if array.program(ROW, codes, false) {
+fn program<A: CellArray>(rt: &HostRuntime, array: &mut A, page: NamedPage) -> io::Result<()> {
+    let name = page.name;
+    if array.program(ROW, page.codes, false) {
         println!(rt; "  programmed {name}")?;
     } else {
         println!(rt; "  {name} failed")?;
@@ -32,13 +35,12 @@ fn program<A: CellArray>(
 pub fn in_order<A: CellArray>(
     rt: &HostRuntime,
     array: &mut A,
-    name: &str,
-    codes: &[u16],
-    next_name: &str,
-    next_codes: &[u16],
+    pages: [NamedPage; 2],
 ) -> io::Result<()> {
-    program(rt, array, name, codes)?;
-    program(rt, array, next_name, next_codes)
+    for page in pages {
+        program(rt, array, page)?;
+    }
+    Ok(())
 }
 
 // Whether the row ended alike in two arrays.

@@ -8,21 +8,12 @@ use refusals::Refusal;
 use std::io;
 use words::{DoubtingByte, Word};
 
-#[derive(Clone, Copy)]
-struct Tally {
-    lawful: u32,
-    wrong: u32,
-}
-
 // Whether a stored word, its torn form and its code agree with the reference.
 fn agrees<W: Word>(kind: Reference, code: u16, word: W) -> bool {
     let torn = word.torn().to_code();
-    for cell in 0..kind.cells() {
-        if kind.level(torn, cell) != kind.torn_level(code, cell) {
-            return false;
-        }
-    }
-    kind.is_lawful(code) && word.to_code() == code && kind.is_lawful(torn)
+    let is_torn = (0..kind.cells()).all(|cell| kind.level(torn, cell)
+        == kind.torn_level(code, cell));
+    is_torn && kind.is_lawful(code) && word.to_code() == code && kind.is_lawful(torn)
 }
 
 // One code: taken where it is lawful, else refused with the number 2.
@@ -33,52 +24,43 @@ fn code_is_right<W: Word>(kind: Reference, code: u16) -> bool {
     }
 }
 
-fn all_codes<W: Word>(kind: Reference) -> Tally {
-    let mut tally = Tally {
-        lawful: 0,
-        wrong: 0,
-    };
-    for code in 0..=65535u16 {
-        if W::from_code(code).is_ok() {
-            tally.lawful = tally.lawful.saturating_add(1);
-        }
-        if !code_is_right::<W>(kind, code) {
-            tally.wrong = tally.wrong.saturating_add(1);
-        }
-    }
-    tally
+fn lawful_codes<W: Word>() -> usize {
+    (0..=u16::MAX)
+        .filter(|code| W::from_code(*code).is_ok())
+        .count()
+}
+
+fn wrong_codes<W: Word>(kind: Reference) -> usize {
+    (0..=u16::MAX)
+        .filter(|code| !code_is_right::<W>(kind, *code))
+        .count()
 }
 
 // One join: in each cell the lower level.
 fn join_is_right<W: Word>(kind: Reference, a: u16, b: u16) -> Result<bool, Refusal> {
     let joined = W::from_code(a)?.join(W::from_code(b)?).to_code();
-    for cell in 0..kind.cells() {
-        if kind.level(joined, cell) != kind.level(a, cell).min(kind.level(b, cell)) {
-            return Ok(false);
-        }
-    }
-    Ok(kind.is_lawful(joined))
+    let is_lower = (0..kind.cells()).all(|cell| kind.level(joined, cell)
+        == kind.level(a, cell).min(kind.level(b, cell)));
+    Ok(is_lower && kind.is_lawful(joined))
 }
 
-fn some_joins<W: Word>(kind: Reference) -> u32 {
-    let mut wrong = 0u32;
-    for i in 0..20000u32 {
-        let a = kind.nth_lawful(i.wrapping_mul(40503).wrapping_add(11));
-        let b = kind.nth_lawful(i.wrapping_mul(30011).wrapping_add(77));
-        match join_is_right::<W>(kind, a, b) {
-            Ok(true) => {}
-            Ok(false) => wrong = wrong.saturating_add(1),
-            Err(_) => wrong = wrong.saturating_add(1),
-        }
-    }
-    wrong
+// The join of two lawful codes, chosen by a number.
+fn nth_join_is_right<W: Word>(kind: Reference, i: u32) -> bool {
+    let a = kind.nth_lawful(i.wrapping_mul(40503).wrapping_add(11));
+    let b = kind.nth_lawful(i.wrapping_mul(30011).wrapping_add(77));
+    join_is_right::<W>(kind, a, b) == Ok(true)
+}
+
+fn wrong_joins<W: Word>(kind: Reference) -> usize {
+    (0..20000u32)
+        .filter(|i| !nth_join_is_right::<W>(kind, *i))
+        .count()
 }
 
 fn report<W: Word>(rt: &HostRuntime, name: &str, kind: Reference) -> io::Result<()> {
-    let tally = all_codes::<W>(kind);
-    let lawful = tally.lawful;
-    let wrong = tally.wrong;
-    let wrong_joins = some_joins::<W>(kind);
+    let lawful = lawful_codes::<W>();
+    let wrong = wrong_codes::<W>(kind);
+    let wrong_joins = wrong_joins::<W>(kind);
     let cells = W::cells();
     let erased = W::erased().to_code();
     let torn_erase = W::torn_erase().to_code();

@@ -7,7 +7,7 @@ pub enum Reference {
 }
 
 fn bit(code: u16, at: u32) -> u8 {
-    if (code >> (at % 16)) & 1 == 1 { 1 } else { 0 }
+    u8::from((code >> (at % 16)) & 1 == 1)
 }
 
 impl Reference {
@@ -20,21 +20,9 @@ impl Reference {
 
     pub fn is_lawful(self, code: u16) -> bool {
         match self {
-            Reference::Bits(n) => {
-                for at in n..16 {
-                    if bit(code, at) == 1 {
-                        return false;
-                    }
-                }
-                true
-            }
+            Reference::Bits(n) => (n..16).all(|at| bit(code, at) == 0),
             Reference::Doubting => {
-                for cell in 0..8u32 {
-                    if bit(code, cell) == 1 && bit(code, cell + 8) == 1 {
-                        return false;
-                    }
-                }
-                true
+                (0..8u32).all(|cell| bit(code, cell) == 0 || bit(code, cell + 8) == 0)
             }
         }
     }
@@ -42,13 +30,8 @@ impl Reference {
     pub fn level(self, code: u16, cell: u32) -> u8 {
         match self {
             Reference::Bits(_) => bit(code, cell),
-            Reference::Doubting => {
-                if bit(code, cell) == 1 {
-                    2
-                } else {
-                    bit(code, cell.wrapping_add(8))
-                }
-            }
+            Reference::Doubting if bit(code, cell) == 1 => 2,
+            Reference::Doubting => bit(code, cell.wrapping_add(8)),
         }
     }
 
@@ -67,9 +50,8 @@ impl Reference {
             Reference::Bits(8) => code % 256,
             Reference::Bits(_) => code,
             Reference::Doubting => {
-                let erased = code % 256;
-                let doubtful = (code / 256) & (erased ^ 255);
-                erased + 256 * (doubtful % 256)
+                let [erased, doubtful] = code.to_le_bytes();
+                u16::from_le_bytes([erased, doubtful & !erased])
             }
         }
     }
