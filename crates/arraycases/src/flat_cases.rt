@@ -47,13 +47,7 @@ fn probe(words: &mut [u8], counts: &mut [u8], columns: usize, page: &[u16]) -> F
 
 // How many bytes of a slice are still as they were.
 fn untouched(bytes: &[u8]) -> usize {
-    let mut n = 0usize;
-    for b in bytes {
-        if *b == OLD {
-            n = n.saturating_add(1);
-        }
-    }
-    n
+    bytes.iter().filter(|b| **b == OLD).count()
 }
 
 fn yes(b: bool) -> &'static str {

@@ -3,12 +3,14 @@ ghost use Rattle.std.specs.Prelude.{◌≡◌, true, Ok, Err};
 ghost use Rattle.rules.specs.Running.{Step};
 ghost use Rattle.chip.specs.Calls.{seen, event};
 
+use crate::case::Case;
 use anyhow::anyhow;
 use arrays::CellArray;
 use chip::Chip;
 use compare::answers::same_answer;
 use records::call::Call;
 use refusals::Refusal;
+use std::io;
 
 #[derive(Clone, Copy)]
 pub struct Expected {
@@ -21,10 +23,7 @@ pub fn taken(call: Call) -> Expected
     ensures call { result.call ≡ call }
     ensures answer { result.answer ≡ Ok 0 }
 {
-    Expected {
-        call,
-        answer: Ok(0),
-    }
+    gives(call, 0)
 }
 
 pub fn gives(call: Call, value: u16) -> Expected
@@ -56,30 +55,22 @@ fn plays<A: CellArray>(chip: &mut Chip<A>, expected: Expected) -> bool
 }
 
 // Shows an answer that has something to tell.
-fn show(rt: &HostRuntime, answer: Result<u16, Refusal>) -> anyhow::Result<()> {
+fn show(rt: &HostRuntime, answer: Result<u16, Refusal>) -> io::Result<()> {
     match answer {
         Ok(0) => Ok(()),
-        Ok(value) => {
-            println!(rt; "  {value:04X}h")?;
-            Ok(())
-        }
-        Err(refusal) => {
-            let number = refusal.number();
-            println!(rt; "  refused: {number}")?;
-            Ok(())
-        }
+        Ok(value) => println!(rt; "  {value:04X}h"),
+        Err(refusal) => println!(rt; "  refused: {}", refusal.number()),
     }
 }
 
 // Plays a case. The first answer that is not the one expected ends the program.
 pub fn play_case<A: CellArray>(
     rt: &HostRuntime,
-    title: &str,
     chip: &mut Chip<A>,
-    case: &[Expected],
+    case: &Case,
 ) -> anyhow::Result<()> {
-    println!(rt; "{title}")?;
-    for expected in case {
+    rt.println(case.title)?;
+    for expected in &case.steps {
         if !plays(chip, *expected) {
             return Err(anyhow!("not the answer that is expected"));
         }
