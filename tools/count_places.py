@@ -114,12 +114,12 @@ def travellers():
 POINTS = {
     "1a own enums, to be read for the shape of Option or Result": lambda: lines_that(r"^\s*(pub(\(crate\))? )?enum "),
     "1b flags in a struct, a variant or a parameter": lambda: lines_that(r"\b\w+: bool\b"),
-    "1c numbers that stand for a kind, a flag or nothing": lambda: lines_that(r"\b(level|next|taken|number|value|kind|code): u(8|16|32)\b|Result<u16, Refusal>\s*$|Ok\(0\)", r"^\s*ensures"),
+    "1c numbers that may stand for a kind or for nothing": lambda: lines_that(r"\b(level|next|taken|device|number): u(8|16|32)\b|-> Result<u16, Refusal>"),
     "1d a Result or Option taken apart where ?, map_err, ok or is_ok would do": lambda: lines_that(r"(Err\((e|error|_)\) => (return )?(Err|false|true|None))|(None => (return )?(None|Err|false|true))|return Err\(\w+Error|(Ok|Some)\(_\) => (true|false)"),
     "2 functions whose bodies differ in a name, a number or a type": twins,
     "3a for over a range of numbers": lambda: lines_that(r"\bfor \w+ in [^{]*\.\."),
     "3b while, loop": lambda: lines_that(r"^\s*(while|loop)\b"),
-    "3c for that only counts, finds or tests": lambda: lines_that(r"(\+= 1;|saturating_add\(1\)|found = )"),
+    "3c for that only counts, finds or tests": lambda: lines_that(r"(\+= 1;|saturating_add\(1\)|\| found;)"),
     "4a comparing, naming and converting by hand": lambda: lines_that(r"fn (same_\w+|\w*_of|of|number|from_\w+|to_\w+|digit)\b|== \"|if \w+ \{ \d+ \} else \{ \d+ \}"),
     "4b bytes of a number by hand": lambda: lines_that(r"% 256\b|/ 256\b|\b256 \*|\* 256\b"),
     "4c casts": lambda: lines_that(r"\bas (u8|u16|u32|u64|usize|char)\b"),
@@ -128,7 +128,7 @@ POINTS = {
     "5b parameters that travel together": travellers,
     "6a arrays of a fixed size": lambda: lines_that(r"\[[\w.:()]+; [\w *]+\]", r"vec!"),
     "6b a length beside a buffer": lambda: lines_that(r"\b(used|len|count|written|size): usize\b|-> \(usize, usize\)"),
-    "7 a match each of whose arms calls one function, closures and dyn": lambda: lines_that(r"=> (self\.)?\w+(::<\w+>)?\(.*\),?$|\bdyn\b|impl Fn|: Fn(Once|Mut)?\("),
+    "7 arms of a match that call a function, closures taken and dyn": lambda: lines_that(r"=> (self\.)?[a-z_]\w*(::<.*>)?\(.*\),?$|\bdyn\b|impl Fn|: Fn(Once|Mut)?\("),
 }
 
 

@@ -31,18 +31,6 @@ struct Played {
     results: Vec<u8>,
 }
 
-fn part_of(word: &str) -> Option<Part> {
-    if word == "K9K1208" {
-        Some(Part::K9K1208)
-    } else if word == "K9K1216" {
-        Some(Part::K9K1216)
-    } else if word == "K9F2808" {
-        Some(Part::K9F2808)
-    } else {
-        None
-    }
-}
-
 // Adds a mark as it is, or the byte of two digits.
 fn add_word(trace: &mut Vec<u8>, word: &str) -> Option<()> {
     match word.strip_prefix(".") {
@@ -53,9 +41,9 @@ fn add_word(trace: &mut Vec<u8>, word: &str) -> Option<()> {
 
 fn case_of(heap: Global, line: &str) -> Option<Case> {
     let mut words = line.split_whitespace();
-    let part = part_of(words.next()?)?;
-    let limit = u8::from_str_radix(words.next()?, 10).ok()?;
-    let room = u16::from_str_radix(words.next()?, 10).ok()?;
+    let part = words.next()?.parse::<Part>().ok()?;
+    let limit = words.next()?.parse::<u8>().ok()?;
+    let room = words.next()?.parse::<u16>().ok()?;
     let mut trace = Vec::new(heap);
     for word in words {
         add_word(&mut trace, word)?;
@@ -67,7 +55,7 @@ fn case_of(heap: Global, line: &str) -> Option<Case> {
     };
     Some(Case {
         opening,
-        room: room as usize,
+        room: usize::from(room),
         trace,
     })
 }
@@ -90,6 +78,7 @@ fn play_case<W: Word + Clone>(heap: Global, case: &Case) -> Result<Played, Alloc
     })
 }
 
+// The part says at run time which type its words are of, so a match and not a type parameter chooses.
 fn play_on_part(heap: Global, case: &Case) -> Result<Played, AllocError> {
     match case.opening.part {
         Part::K9K1216 => play_case::<u16>(heap, case),
@@ -104,7 +93,7 @@ fn show(rt: &HostRuntime, outcome: &Played) -> io::Result<()> {
     for result in outcome.results.chunks(4) {
         match result {
             [b'o', b'k', low, high] => {
-                let value = *low as u16 + 256 * *high as u16;
+                let value = u16::from_le_bytes([*low, *high]);
                 print!(rt; " ok{value:02X}")?
             }
             [b'n', b'o', number, 0] => print!(rt; " no{number}")?,
