@@ -1,10 +1,12 @@
 // Why two chips were not compared. Neither chip was touched then.
 ghost use Rattle.std.specs.Prelude.{◌≡◌, ℕ, IfSome};
 ghost use Rattle.refusals.specs.Numbers.{number};
+ghost use Rattle.compare.specs.declared.error.CompareError.TheVariants.{NoMemory};
 ghost use Rattle.compare.specs.Errors.{refusal_told};
 
 use records::error::TraceError;
 use refusals::Refusal;
+use std::alloc::AllocError;
 
 // Which of two.
 #[derive(Clone, Copy, PartialEq, Eq, Debug)]
@@ -13,7 +15,7 @@ pub enum Side {
     Other,
 }
 
-#[derive(Clone, Copy)]
+#[derive(Clone, Copy, PartialEq, Eq, Debug)]
 pub enum CompareError {
     // no memory for the answers
     NoMemory,
@@ -33,5 +35,13 @@ impl CompareError {
             CompareError::NoMemory | CompareError::TooLarge => None,
             CompareError::NotRead { error, .. } => error.refusal(),
         }
+    }
+}
+
+impl From<AllocError> for CompareError {
+    ghost from_gives = { λ _ error. error ≡ NoMemory };
+
+    fn from(_error: AllocError) -> CompareError {
+        CompareError::NoMemory
     }
 }
