@@ -1,3 +1,4 @@
+pub mod Names
 pub mod Lows
 pub mod Orders
 pub mod Failures

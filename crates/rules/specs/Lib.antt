@@ -1,3 +1,4 @@
+pub mod Names
 pub mod Parts
 pub mod Commands
 pub mod Controls

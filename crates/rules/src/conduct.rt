@@ -1,5 +1,6 @@
 // Laws of the rules themselves. A theorem is the promise of a function that does nothing else.
 ghost use Rattle.rules.specs.Conduct.{LowRefusalsChangeNothing, RefusedStarts, FailuresAreTold, SettleEndsBusy, ResetAlwaysResets, LookChangesNothing, DeadChipsAnswer1, OnlyLandingsChangeCells, TightIsClosed, RegisterIsErasedBeyond, RegisterIsLawful, OnlyTheUnwillingFail, RowsCountLowFirst};
+ghost use Rattle.rules.specs.Names.{NamesReadBack};
 
 // Refusals 1 to 9 change nothing at all.
 pub fn low_refusals_change_nothing()
@@ -63,4 +64,9 @@ pub fn only_the_unwilling_fail()
 // Row cycles count from the low byte up, modulo the part's rows.
 pub fn rows_count_low_first()
     ensures { RowsCountLowFirst }
+{}
+
+// A part's name reads back as the part, and as no other.
+pub fn names_read_back()
+    ensures { NamesReadBack }
 {}

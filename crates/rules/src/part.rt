@@ -1,6 +1,11 @@
 // The three parts, and the areas of a page that a read or a load starts in.
 ghost use Rattle.std.specs.Prelude.{◌≡◌, ℕ, ◌<◌, ◌≤◌};
+ghost use Rattle.rules.specs.Names.{part_name};
 ghost use Rattle.rules.specs.Parts.{columns, cells, row_cycles, most_blocks, most_rows, locks, has_b, start_column, next_row, fallen_back, is_last};
+
+use std::error::Error;
+use std::fmt;
+use std::str::FromStr;
 
 #[derive(Clone, Copy, PartialEq, Eq, Debug)]
 pub enum Part {
@@ -8,6 +13,10 @@ pub enum Part {
     K9K1216,
     K9F2808,
 }
+
+// A text that is no part's name.
+#[derive(Clone, Copy, PartialEq, Eq, Debug)]
+pub struct UnknownPart;
 
 // The area of a page where column cycles count from.
 #[derive(Clone, Copy, PartialEq, Eq, Debug)]
@@ -18,6 +27,16 @@ pub enum Pointer {
 }
 
 impl Part {
+    pub fn name(self) -> &'static str
+        ensures { result.now ≡ part_name self }
+    {
+        match self {
+            Part::K9K1208 => "K9K1208",
+            Part::K9K1216 => "K9K1216",
+            Part::K9F2808 => "K9F2808",
+        }
+    }
+
     // The words of a page, spare area included.
     pub fn columns(self) -> u16
         ensures value { result ≡ columns self }
@@ -133,6 +152,47 @@ impl Part {
         (sum % self.most_rows() as u64) as u32
     }
 }
+
+impl fmt::Display for Part {
+    ghost use Rattle.std.specs.Prelude.{Some};
+    ghost use Rattle.rules.specs.Names.{part_name};
+
+    ghost output = { λ part. Some (part_name part) };
+
+    fn fmt<W: fmt::Write>(&self, f: &mut fmt::Formatter<W>) -> fmt::Result {
+        f.write_str(self.name())
+    }
+}
+
+// Reads a part's name.
+impl FromStr for Part {
+    type Err = UnknownPart;
+
+    ghost use Rattle.rules.specs.Names.{IsRead};
+
+    ghost from_str_gives = { λ text r. IsRead text r };
+
+    fn from_str(text: &str) -> Result<Part, UnknownPart> {
+        match text {
+            "K9K1208" => Ok(Part::K9K1208),
+            "K9K1216" => Ok(Part::K9K1216),
+            "K9F2808" => Ok(Part::K9F2808),
+            _ => Err(UnknownPart),
+        }
+    }
+}
+
+impl fmt::Display for UnknownPart {
+    ghost use Rattle.std.specs.Prelude.{Some, codes};
+
+    ghost output = { λ _. Some (codes "no such part") };
+
+    fn fmt<W: fmt::Write>(&self, f: &mut fmt::Formatter<W>) -> fmt::Result {
+        f.write_str("no such part")
+    }
+}
+
+impl Error for UnknownPart {}
 
 impl Pointer {
     // Area B holds for one read, load or erase.
