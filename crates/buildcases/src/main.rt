@@ -16,13 +16,11 @@ const WORDS: usize = 32 * 528;
 
 const COUNTS: usize = 32;
 
-fn opening() -> Opening {
-    Opening {
-        part: Part::K9F2808,
-        device: 0x73,
-        limit: 3,
-    }
-}
+const OPENING: Opening = Opening {
+    part: Part::K9F2808,
+    device: 0x73,
+    limit: 3,
+};
 
 // Programs two words, one after the other, at the first place of row 0.
 fn two_words(first: u16, second: u16) -> [Call; 14] {
@@ -93,7 +91,7 @@ fn compare_traces(
         counts: &mut other_counts,
         trace: other_trace,
     };
-    match compare_builds(heap, opening(), one, other) {
+    match compare_builds(heap, OPENING, one, other) {
         Err(error) => match error.refusal() {
             None => println!(rt; "  no memory"),
             Some(why) => {

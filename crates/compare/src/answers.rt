@@ -39,7 +39,10 @@ pub fn same_answer(one: Result<u16, Refusal>, other: Result<u16, Refusal>) -> bo
     one == other
 }
 
-pub fn same_answers(answers: &[Result<u16, Refusal>], other_answers: &[Result<u16, Refusal>]) -> bool
+pub fn same_answers(
+    answers: &[Result<u16, Refusal>],
+    other_answers: &[Result<u16, Refusal>],
+) -> bool
     ensures { Decides result (answers.now ≡ other_answers.now) }
 {
     answers == other_answers

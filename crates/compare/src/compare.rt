@@ -33,7 +33,7 @@ fn same_arrays<A: CellArray, B: CellArray>(one: &A, other: &B, blocks: u32) -> b
 }
 
 // Plays each list of calls on its chip, and answers both verdicts. Room for all answers is made first, so that an error leaves both chips as
-// they were.
+// they were. Each chip stands beside its calls, and not in one struct with them, so that the contract can speak of `one.old` and `one.new`.
 pub fn compare_calls<A: CellArray, B: CellArray<Stored = A::Stored>>(
     heap: Global,
     one: &mut Chip<A>,

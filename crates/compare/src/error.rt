@@ -7,6 +7,8 @@ ghost use Rattle.compare.specs.Errors.{refusal_told};
 use records::error::TraceError;
 use refusals::Refusal;
 use std::alloc::AllocError;
+use std::error::Error;
+use std::fmt;
 
 // Which of two.
 #[derive(Clone, Copy, PartialEq, Eq, Debug)]
@@ -38,10 +40,27 @@ impl CompareError {
     }
 }
 
+impl fmt::Display for CompareError {
+    ghost use Rattle.std.specs.Prelude.{Some};
+    ghost use Rattle.compare.specs.Texts.{error_text};
+
+    ghost output = { λ error. Some (error_text error) };
+
+    fn fmt<W: fmt::Write>(&self, f: &mut fmt::Formatter<W>) -> fmt::Result {
+        match self {
+            CompareError::NoMemory => f.write_str("no memory for the answers"),
+            CompareError::TooLarge => f.write_str("the array is too large"),
+            CompareError::NotRead { error, .. } => write!(f, "{error}"),
+        }
+    }
+}
+
+impl Error for CompareError {}
+
 impl From<AllocError> for CompareError {
     ghost from_gives = { λ _ error. error ≡ NoMemory };
 
-    fn from(_error: AllocError) -> CompareError {
-        CompareError::NoMemory
+    fn from(_error: AllocError) -> Self {
+        Self::NoMemory
     }
 }

@@ -17,7 +17,7 @@ pub fn bytes_of(answer: Result<u16, Refusal>) -> [u8; 4]
     }
 }
 
-// Tells an answer; how many bytes are written then.
+// Tells an answer in the caller's buffer, after so many bytes that are written; how many are written then.
 pub(crate) fn tell(results: &mut [u8], written: usize, answer: Result<u16, Refusal>) -> usize
     requires { written + 4 ≤ length results.old }
     ensures count { result ≡ written + 4 }

@@ -5,7 +5,7 @@ mod report;
 mod settings;
 mod sides;
 
-use anyhow::bail;
+use anyhow::ensure;
 use rules::part::Part;
 use settings::{Settings, take_settings};
 use sides::{TraceFile, compare_sides};
@@ -13,15 +13,11 @@ use std::env;
 
 // Compares the first trace with each of the others.
 fn compare_all(rt: &HostRuntime, names: &[String], settings: Settings) -> anyhow::Result<()> {
-    let [first, others @ ..] = names else {
-        bail!("give two trace files")
-    };
-    if others.is_empty() {
-        bail!("give two trace files")
-    }
-    let one = TraceFile::read(rt, first)?;
-    for name in others {
+    ensure!(names.len() >= 2, "give two trace files");
+    let one = TraceFile::read(rt, &names[0])?;
+    for name in &names[1..] {
         let other = TraceFile::read(rt, name)?;
+        // the width of a word is a type, so that each part's is named here
         match settings.part {
             Part::K9K1216 => compare_sides::<u16>(rt, settings, &one, &other)?,
             Part::K9K1208 | Part::K9F2808 => compare_sides::<u8>(rt, settings, &one, &other)?,

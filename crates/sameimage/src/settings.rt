@@ -3,7 +3,7 @@ ghost use Rattle.std.specs.Prelude.{◌≡◌, ℕ, ◌<◌, ◌≤◌, IfOk};
 ghost use Rattle.rules.specs.Parts.{most_blocks};
 ghost use Rattle.sameimage.specs.Chosen.{chosen_blocks, Chosen};
 
-use anyhow::bail;
+use anyhow::Context;
 use rules::part::Part;
 use std::alloc::Global;
 
@@ -41,8 +41,6 @@ pub fn take_settings(
             names.push(word)?;
         }
     }
-    match blocks_of(part, asked) {
-        Some(blocks) => Ok((names, Settings { part, blocks })),
-        None => bail!("the part has not so many blocks"),
-    }
+    let blocks = blocks_of(part, asked).context("the part has not so many blocks")?;
+    Ok((names, Settings { part, blocks }))
 }

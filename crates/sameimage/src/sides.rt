@@ -24,10 +24,8 @@ pub struct TraceFile<'a> {
 
 impl<'a> TraceFile<'a> {
     pub fn read(rt: &HostRuntime, name: &'a str) -> anyhow::Result<TraceFile<'a>> {
-        match fs::read(rt, name) {
-            Ok(bytes) => Ok(TraceFile { name, bytes }),
-            Err(error) => Err(anyhow!("{name}: {error}")),
-        }
+        let bytes = fs::read(rt, name).map_err(|error| anyhow!("{name}: {error}"))?;
+        Ok(TraceFile { name, bytes })
     }
 }
 
