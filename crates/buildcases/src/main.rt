@@ -2,8 +2,8 @@
 #![tactic(auto)]
 
 use arrays::CellArray;
-use compare::answers::{count_answers, first_refusal};
-use compare::builds::compare_builds;
+use compare::answers::{FirstRefusal, count_answers, first_refusal};
+use compare::builds::{Build, compare_builds};
 use records::call::Call;
 use records::writer::write_trace;
 use refusals::Refusal;
@@ -16,13 +16,11 @@ const WORDS: usize = 32 * 528;
 
 const COUNTS: usize = 32;
 
-fn opening() -> Opening {
-    Opening {
-        part: Part::K9F2808,
-        device: 0x73,
-        limit: 3,
-    }
-}
+const OPENING: Opening = Opening {
+    part: Part::K9F2808,
+    device: 0x73,
+    limit: 3,
+};
 
 // Programs two words, one after the other, at the first place of row 0.
 fn two_words(first: u16, second: u16) -> [Call; 14] {
@@ -60,16 +58,13 @@ fn settled_early(word: u16) -> [Call; 8] {
 
 fn side(rt: &HostRuntime, name: &str, answers: &[Result<u16, Refusal>]) -> io::Result<()> {
     let tally = count_answers(answers);
-    let taken = tally.taken;
-    let refused = tally.refused;
     match first_refusal(answers) {
-        None => println!(rt; "  {name}: {taken} calls taken, none refused"),
-        Some(first) => {
-            let call = first.call;
-            let why = first.why;
-            println!(rt;
-                "  {name}: {taken} calls taken, {refused} refused, the first is call {call}: {why}"
-            )
+        None => {
+            let taken = tally.taken;
+            println!(rt; "  {name}: {taken} calls taken, none refused")
+        }
+        Some(FirstRefusal { call, why }) => {
+            println!(rt; "  {name}: {tally}, the first is call {call}: {why}")
         }
     }
 }
@@ -86,16 +81,17 @@ fn compare_traces(
     let mut other_words = vec![in heap; 0u8; WORDS]?;
     let mut other_counts = vec![in heap; 0u8; COUNTS]?;
     println!(rt; "{title}")?;
-    match compare_builds(
-        heap,
-        opening(),
-        &mut words,
-        &mut counts,
+    let one = Build {
+        words: &mut words,
+        counts: &mut counts,
         trace,
-        &mut other_words,
-        &mut other_counts,
-        other_trace,
-    ) {
+    };
+    let other = Build {
+        words: &mut other_words,
+        counts: &mut other_counts,
+        trace: other_trace,
+    };
+    match compare_builds(heap, OPENING, one, other) {
         Err(error) => match error.refusal() {
             None => println!(rt; "  no memory"),
             Some(why) => {

@@ -1,8 +1,8 @@
 // Runs a trace from the standard input on a new K9K1208 of two blocks, and prints the result bytes.
 #![tactic(auto)]
 
-ghost use Rattle.std.specs.Prelude.{◌≡◌, ℕ, ◌≤◌, length, take};
-ghost use Rattle.chiptrace.specs.Traced.{Traced, opening};
+ghost use Rattle.std.specs.Prelude.{◌≡◌, ◌≤◌, length, take};
+ghost use Rattle.chiptrace.specs.Traced.{Traced};
 
 use rules::control::Opening;
 use rules::part::Part;
@@ -19,15 +19,11 @@ const COUNTS: usize = 64;
 
 const RESULTS: usize = 8192;
 
-fn opening() -> Opening
-    ensures { result ≡ opening }
-{
-    Opening {
-        part: Part::K9K1208,
-        device: 0x76,
-        limit: 3,
-    }
-}
+const OPENING: Opening = Opening {
+    part: Part::K9K1208,
+    device: 0x76,
+    limit: 3,
+};
 
 // Runs the trace on a new chip in this memory; how many result bytes there are.
 fn run_trace(words: &mut [u8], counts: &mut [u8], trace: &[u8], results: &mut [u8]) -> usize
@@ -37,7 +33,7 @@ fn run_trace(words: &mut [u8], counts: &mut [u8], trace: &[u8], results: &mut [u
     ensures bound { result ≤ length results.new }
     ensures traced { Traced trace.now (take result results.new) }
 {
-    let (_, written) = run_on_memory(opening(), words, counts, trace, results);
+    let (_, written) = run_on_memory(OPENING, words, counts, trace, results);
     written
 }
 

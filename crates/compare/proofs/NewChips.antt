@@ -1,9 +1,11 @@
 -- Two traces on two new chips: the laws of equality with nothing left to assume. Assumes nothing.
-use Rattle.std.proofs.Common.{◌≡◌, ℕ, ◌*◌, ◌≤◌, Bool, List, length, refl, sym, ap₂, ◌∙◌, subst, arith}
+use Rattle.std.proofs.Common.{◌≡◌, ℕ, ◌*◌, ◌≤◌, Bool, List, length, refl, sym, ap₂, ◌∙◌, subst}
 use Rattle.records.proofs.Joins.{one_reading}
 use Rattle.words.specs.Kind.{Kind}
 use Rattle.arrays.specs.Meaning.{Shape}
-use Rattle.arrays.specs.Flat.{flat_blocks, Put, Beyond}
+use Rattle.arrays.specs.Flat.{flat_blocks, Beyond}
+use Rattle.arrays.specs.Rest.{lent, flat_lent}
+use Rattle.arrays.proofs.Rests.{rest_beyond}
 use Rattle.rules.specs.declared.control.Opening.{Opening}
 use Rattle.rules.specs.Answering.{Answer}
 use Rattle.rules.specs.Running.{Chip}
@@ -27,18 +29,8 @@ module _ {K : Kind} where
         (one_reading t x.calls x.other_calls x.read (same ∙ x.other_read));
   }
 
--- memory that was erased within the shape is as it was beyond it
-pub beyond_erased : (n : ℕ) (cs ns cs' ns' : List ℕ) (v : ℕ) → Put cs cs' 0 (flat_blocks n (length cs) (length ns) * (32 * n)) v
-    → Put ns ns' 0 (32 * flat_blocks n (length cs) (length ns)) 0 → Beyond n cs ns cs' ns'
-beyond_erased n cs ns cs' ns' v codes counts = record {
-  codes_length = codes.len;
-  counts_length = counts.len;
-  codes_kept = λ i h. codes.after i (omega arith);
-  counts_kept = λ i h. counts.after i (omega arith);
-}
-
 -- as it was, and as it was again
-pub beyond_both : (n : ℕ) (cs ns cs' ns' cs'' ns'' : List ℕ) → Beyond n cs ns cs' ns' → Beyond n cs' ns' cs'' ns'' → Beyond n cs ns cs'' ns''
+beyond_both : (n : ℕ) (cs ns cs' ns' cs'' ns'' : List ℕ) → Beyond n cs ns cs' ns' → Beyond n cs' ns' cs'' ns'' → Beyond n cs ns cs'' ns''
 beyond_both n cs ns cs' ns' cs'' ns'' a b =
     let size : flat_blocks n (length cs') (length ns') ≡ flat_blocks n (length cs) (length ns) = ap₂ (flat_blocks n) a.codes_length a.counts_length in
     record {
@@ -47,3 +39,9 @@ beyond_both n cs ns cs' ns' cs'' ns'' a b =
       codes_kept = λ i h. b.codes_kept i (subst (λ (m : ℕ). m * (32 * n) ≤ i) (sym size) h) ∙ a.codes_kept i h;
       counts_kept = λ i h. b.counts_kept i (subst (λ (m : ℕ). 32 * m ≤ i) (sym size) h) ∙ a.counts_kept i h;
     }
+
+-- as it was beyond the shape when the chip was opened, and then the rest of the array stayed
+pub beyond_kept : (columns n n' w c w' c' : ℕ) (cs ns cs' ns' cs'' ns'' : List ℕ) → n ≡ columns → Beyond columns cs ns cs' ns'
+    → lent (flat_lent w' c' n' cs'' ns'') ≡ lent (flat_lent w c n cs' ns') → Beyond columns cs ns cs'' ns''
+beyond_kept columns n n' w c w' c' cs ns cs' ns' cs'' ns'' e opened kept =
+    beyond_both columns cs ns cs' ns' cs'' ns'' opened (subst (λ (m : ℕ). Beyond m cs' ns' cs'' ns'') e (rest_beyond w c w' c' n n' cs' ns' cs'' ns'' kept))

@@ -4,3 +4,4 @@ pub mod Compared
 pub mod Errors
 pub mod FirstRefusals
 pub mod Built
+pub mod Texts

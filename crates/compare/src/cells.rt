@@ -15,116 +15,86 @@ pub struct Difference {
     pub other_code: u16,
 }
 
-// Whether the arrays have one code at the place.
-fn is_same<A: CellArray, B: CellArray>(one: &A, other: &B, row: usize, column: usize) -> bool
-    ensures { result ≡ ((A.CellArray.meaning one.now).holds.code row column == (B.CellArray.meaning other.now).holds.code row column) }
-{
-    one.code(row, column) == other.code(row, column)
+// Two arrays side by side.
+#[derive(Clone, Copy)]
+pub struct Pair<'a, A, B> {
+    pub one: &'a A,
+    pub other: &'a B,
 }
 
-// The first column of the row, of so many, at which the arrays differ.
-fn first_in_row<A: CellArray, B: CellArray>(
-    one: &A,
-    other: &B,
-    row: usize,
-    columns: usize,
-) -> Option<usize>
-    ensures { FirstApart ((A.CellArray.meaning one.now).holds.code row) ((B.CellArray.meaning other.now).holds.code row) columns result }
-{
-    for column in 0..columns {
-        if !is_same(one, other, row, column) {
-            return Some(column);
+impl<'a, A: CellArray, B: CellArray> Pair<'a, A, B> {
+    // Whether the arrays have one code at the place.
+    fn is_same(&self, row: usize, column: usize) -> bool
+        ensures { result ≡ ((A.CellArray.meaning self.now.one.now).holds.code row column == (B.CellArray.meaning self.now.other.now).holds.code row column) }
+    {
+        self.one.code(row, column) == self.other.code(row, column)
+    }
+
+    // The first column of the row, of so many, at which the arrays differ.
+    fn first_in_row(&self, row: usize, columns: usize) -> Option<usize>
+        ensures { FirstApart ((A.CellArray.meaning self.now.one.now).holds.code row) ((B.CellArray.meaning self.now.other.now).holds.code row) columns result }
+    {
+        (0..columns).find(|column| !self.is_same(row, *column))
+    }
+
+    // The first place, row after row, at which the arrays differ within so many blocks and columns.
+    pub fn first_difference(&self, blocks: u32, columns: usize) -> Option<Difference>
+        ensures { FirstDifference record { blocks = blocks; columns = columns } (A.CellArray.meaning self.now.one.now).holds (B.CellArray.meaning self.now.other.now).holds result }
+    {
+        let rows = 32 * blocks as usize;
+        for row in 0..rows {
+            if let Some(column) = self.first_in_row(row, columns) {
+                let code = self.one.code(row, column);
+                let other_code = self.other.code(row, column);
+                return Some(Difference {
+                    row,
+                    column,
+                    code,
+                    other_code,
+                });
+            }
         }
+        None
     }
-    None
-}
 
-// The first place, row after row, at which the arrays differ within so many blocks and columns.
-pub fn first_difference<A: CellArray, B: CellArray>(
-    one: &A,
-    other: &B,
-    blocks: u32,
-    columns: usize,
-) -> Option<Difference>
-    ensures { FirstDifference record { blocks = blocks; columns = columns } (A.CellArray.meaning one.now).holds (B.CellArray.meaning other.now).holds result }
-{
-    let rows = 32 * blocks as usize;
-    for row in 0..rows {
-        if let Some(column) = first_in_row(one, other, row, columns) {
-            let code = one.code(row, column);
-            let other_code = other.code(row, column);
-            return Some(Difference {
-                row,
-                column,
-                code,
-                other_code,
-            });
-        }
+    // How many words of the row, of so many, differ.
+    fn apart_in_row(&self, row: usize, columns: u16) -> u32
+        ensures count { result ≡ count_apart ((A.CellArray.meaning self.now.one.now).holds.code row) ((B.CellArray.meaning self.now.other.now).holds.code row) columns }
+        ensures bound { result ≤ columns }
+    {
+        (0..columns as usize)
+            .filter(|column| !self.is_same(row, *column))
+            .count() as u32
     }
-    None
-}
 
-// How many words of the row, of so many, differ.
-fn apart_in_row<A: CellArray, B: CellArray>(one: &A, other: &B, row: usize, columns: u16) -> u32
-    ensures count { result ≡ count_apart ((A.CellArray.meaning one.now).holds.code row) ((B.CellArray.meaning other.now).holds.code row) columns }
-    ensures bound { result ≤ columns }
-{
-    let mut n = 0;
-    for column in 0..columns as usize {
-        if !is_same(one, other, row, column) {
-            n += 1;
-        }
+    // How many words of the block differ, of so many a row.
+    pub fn apart_in_block(&self, block: u32, columns: u16) -> u32
+        ensures { result ≡ count_block (A.CellArray.meaning self.now.one.now).holds (B.CellArray.meaning self.now.other.now).holds columns block }
+    {
+        let first = 32 * block as usize;
+        (first..first + 32)
+            .map(|row| self.apart_in_row(row, columns))
+            .sum()
     }
-    n
-}
 
-// How many words of the block differ, of so many a row.
-pub fn apart_in_block<A: CellArray, B: CellArray>(
-    one: &A,
-    other: &B,
-    block: u32,
-    columns: u16,
-) -> u32
-    ensures { result ≡ count_block (A.CellArray.meaning one.now).holds (B.CellArray.meaning other.now).holds columns block }
-{
-    let first = 32 * block as usize;
-    let mut n = 0;
-    for page in 0..32usize {
-        n += apart_in_row(one, other, first + page, columns);
+    // Whether the arrays are equal in all cells within so many blocks and columns.
+    pub fn same_cells(&self, blocks: u32, columns: usize) -> bool
+        ensures { Decides result (SameCells record { blocks = blocks; columns = columns } (A.CellArray.meaning self.now.one.now).holds (B.CellArray.meaning self.now.other.now).holds) }
+    {
+        self.first_difference(blocks, columns).is_none()
     }
-    n
-}
 
-// Whether the arrays are equal in all cells within so many blocks and columns.
-pub fn same_cells<A: CellArray, B: CellArray>(
-    one: &A,
-    other: &B,
-    blocks: u32,
-    columns: usize,
-) -> bool
-    ensures { Decides result (SameCells record { blocks = blocks; columns = columns } (A.CellArray.meaning one.now).holds (B.CellArray.meaning other.now).holds) }
-{
-    match first_difference(one, other, blocks, columns) {
-        None => true,
-        Some(_) => false,
+    // Whether the arrays have as many blocks and columns.
+    pub fn same_shape(&self) -> bool
+        ensures { result ≡ same_shape (A.CellArray.meaning self.now.one.now).holds.shape (B.CellArray.meaning self.now.other.now).holds.shape }
+    {
+        self.one.blocks() == self.other.blocks() && self.one.columns() == self.other.columns()
     }
-}
-
-// Whether the arrays have as many blocks and columns.
-pub fn same_shape<A: CellArray, B: CellArray>(one: &A, other: &B) -> bool
-    ensures { result ≡ same_shape (A.CellArray.meaning one.now).holds.shape (B.CellArray.meaning other.now).holds.shape }
-{
-    one.blocks() == other.blocks() && one.columns() == other.columns()
 }
 
 // The number of blocks, where it is below 2^32.
 pub fn block_count<A: CellArray>(array: &A) -> Option<u32>
     ensures { MatchOption result (2 ^ 32 ≤ (A.meaning array.now).holds.shape.blocks) (λ n. n ≡ (A.meaning array.now).holds.shape.blocks) }
 {
-    let blocks = array.blocks();
-    if blocks < 4294967296 {
-        Some(blocks as u32)
-    } else {
-        None
-    }
+    u32::try_from(array.blocks()).ok()
 }

@@ -4,10 +4,10 @@ ghost use Rattle.chip.specs.Calls.{seen};
 ghost use Rattle.compare.specs.Compared.{EqualCells, Compared};
 ghost use Rattle.compare.specs.Errors.{CallsRefused};
 
-use crate::answers::same_kept;
-use crate::cells::{block_count, same_cells, same_shape};
+use crate::answers::same_answers;
+use crate::cells::{Pair, block_count};
 use crate::error::CompareError;
-use crate::playing::{make_room, play_all};
+use crate::playing::play_all;
 use arrays::CellArray;
 use chip::Chip;
 use records::call::Call;
@@ -28,11 +28,12 @@ fn same_arrays<A: CellArray, B: CellArray>(one: &A, other: &B, blocks: u32) -> b
     requires { blocks ≡ (A.CellArray.meaning one.now).holds.shape.blocks }
     ensures { Decides result (EqualCells (A.CellArray.meaning one.now).holds (B.CellArray.meaning other.now).holds) }
 {
-    same_shape(one, other) && same_cells(one, other, blocks, one.columns())
+    let pair = Pair { one, other };
+    pair.same_shape() && pair.same_cells(blocks, one.columns())
 }
 
 // Plays each list of calls on its chip, and answers both verdicts. Room for all answers is made first, so that an error leaves both chips as
-// they were.
+// they were. Each chip stands beside its calls, and not in one struct with them, so that the contract can speak of `one.old` and `one.new`.
 pub fn compare_calls<A: CellArray, B: CellArray<Stored = A::Stored>>(
     heap: Global,
     one: &mut Chip<A>,
@@ -48,18 +49,12 @@ pub fn compare_calls<A: CellArray, B: CellArray<Stored = A::Stored>>(
     ensures opening { one.new.opening ≡ one.old.opening }
     ensures other_opening { other.new.opening ≡ other.old.opening }
 {
-    let Some(blocks) = block_count((*one).array()) else {
-        return Err(CompareError::TooLarge);
-    };
-    let Some(room) = make_room(heap, calls) else {
-        return Err(CompareError::NoMemory);
-    };
-    let Some(other_room) = make_room(heap, other_calls) else {
-        return Err(CompareError::NoMemory);
-    };
+    let blocks = block_count((*one).array()).ok_or(CompareError::TooLarge)?;
+    let room = Vec::with_capacity(heap, calls.len())?;
+    let other_room = Vec::with_capacity(heap, other_calls.len())?;
     let answers = play_all(one, calls, room);
     let other_answers = play_all(other, other_calls, other_room);
-    let answers_equal = same_kept(&answers, &other_answers);
+    let answers_equal = same_answers(&answers, &other_answers);
     let cells_equal = same_arrays((*one).array(), (*other).array(), blocks);
     Ok(Comparison {
         answers,

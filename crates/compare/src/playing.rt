@@ -1,5 +1,5 @@
 // A list of calls, played on a chip.
-ghost use Rattle.std.specs.Prelude.{◌≡◌, ◌≤◌, [], length, IfSome, vec_capacity};
+ghost use Rattle.std.specs.Prelude.{◌≡◌, ◌≤◌, [], length, vec_capacity};
 ghost use Rattle.chip.specs.Calls.{seen};
 ghost use Rattle.compare.specs.Played.{Played};
 
@@ -7,14 +7,6 @@ use arrays::CellArray;
 use chip::Chip;
 use records::call::Call;
 use refusals::Refusal;
-use std::alloc::Global;
-
-// Room for an answer to each call, if there is memory for it.
-pub(crate) fn make_room(heap: Global, calls: &[Call]) -> Option<Vec<Result<u16, Refusal>>>
-    ensures { IfSome result (λ v. (v.items ≡ []) × (length calls.now ≤ vec_capacity v)) }
-{
-    Vec::with_capacity(heap, calls.len()).ok()
-}
 
 // Plays the calls and puts their answers into room that was made for them, so that no call is played for whose answer there is no memory.
 pub(crate) fn play_all<A: CellArray>(

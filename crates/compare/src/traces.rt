@@ -18,10 +18,7 @@ fn read_side(heap: Global, trace: &[u8], side: Side) -> Result<Vec<Call>, Compar
     ensures read { IfOk result (λ v. Reading trace.now v.items) }
     ensures unread { IfErr result (λ e. Unread trace.now side e) }
 {
-    match read_trace(heap, trace) {
-        Ok(calls) => Ok(calls),
-        Err(error) => Err(CompareError::NotRead { side, error }),
-    }
+    read_trace(heap, trace).map_err(|error| CompareError::NotRead { side, error })
 }
 
 // Reads both traces, plays the calls of each on its chip, and answers both verdicts. A trace that is not accepted is refused before anything
@@ -41,13 +38,7 @@ pub fn compare_traces<A: CellArray, B: CellArray<Stored = A::Stored>>(
     ensures opening { one.new.opening ≡ one.old.opening }
     ensures other_opening { other.new.opening ≡ other.old.opening }
 {
-    let calls = match read_side(heap, trace, Side::One) {
-        Ok(calls) => calls,
-        Err(error) => return Err(error),
-    };
-    let other_calls = match read_side(heap, other_trace, Side::Other) {
-        Ok(calls) => calls,
-        Err(error) => return Err(error),
-    };
-    compare_calls(heap, one, calls.as_slice(), other, other_calls.as_slice())
+    let calls = read_side(heap, trace, Side::One)?;
+    let other_calls = read_side(heap, other_trace, Side::Other)?;
+    compare_calls(heap, one, &calls, other, &other_calls)
 }

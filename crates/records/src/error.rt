@@ -1,9 +1,11 @@
 // Why a trace was not read.
-ghost use Rattle.std.specs.Prelude.{◌≡◌, ℕ, IfSome};
+ghost use Rattle.std.specs.Prelude.{◌≡◌, ℕ, IfSome, Some};
 ghost use Rattle.refusals.specs.Numbers.{number};
-ghost use Rattle.records.specs.Refused.{refusal_of};
+ghost use Rattle.records.specs.Refused.{refusal_of, error_text};
 
 use refusals::Refusal;
+use std::error::Error;
+use std::fmt;
 
 #[derive(Clone, Copy, PartialEq, Eq, Debug)]
 pub enum TraceError {
@@ -25,3 +27,21 @@ impl TraceError {
         }
     }
 }
+
+impl fmt::Display for TraceError {
+    ghost output = { λ error. Some (error_text error) };
+
+    fn fmt<W: fmt::Write>(&self, f: &mut fmt::Formatter<W>) -> fmt::Result {
+        match *self {
+            TraceError::BadRecord { whole } => {
+                let number = Refusal::BadRecord.number();
+                write!(f, "refused with {number}, a bad record after {whole} bytes")
+            }
+            TraceError::NoMemory { whole } => {
+                write!(f, "no memory for the calls after {whole} bytes")
+            }
+        }
+    }
+}
+
+impl Error for TraceError {}

@@ -23,7 +23,8 @@ fn run_lent<A: CellArray>(
     run(&mut chip, trace, results)
 }
 
-// The same over a lent flat array, which keeps the memory that was lent to it.
+// The same over a lent flat array. `run_lent` says in the words of any array that the memory lent to it stays; this says it of the two slices,
+// by which `run_on_memory` knows them again once the array is gone.
 fn run_flat<W: Word>(
     opening: Opening,
     array: &mut FlatArray<W>,

@@ -1,6 +1,6 @@
 // The result of a record: four bytes at a place of the results.
 ghost use Rattle.std.specs.Prelude.{◌≡◌, ℕ, ◌+◌, ◌≤◌, ◌++◌, length, take, drop};
-ghost use Rattle.runner.specs.Results.{result_bytes, bad_bytes};
+ghost use Rattle.runner.specs.Results.{result_bytes};
 
 use refusals::Refusal;
 
@@ -9,34 +9,20 @@ pub fn bytes_of(answer: Result<u16, Refusal>) -> [u8; 4]
     ensures { result ≡ result_bytes answer }
 {
     match answer {
-        Ok(value) => [b'o', b'k', (value % 256) as u8, (value / 256) as u8],
+        Ok(value) => {
+            let [low, high] = value.to_le_bytes();
+            [b'o', b'k', low, high]
+        }
         Err(refusal) => [b'n', b'o', refusal.number(), 0],
     }
 }
 
-fn put(results: &mut [u8], at: usize, bytes: [u8; 4])
-    requires { at + 4 ≤ length results.old }
-    ensures { results.new ≡ take at results.old ++ (bytes ++ drop (at + 4) results.old) }
-{
-    results[at..at + 4].copy_from_slice(&bytes);
-}
-
-// Tells an answer; how many bytes are written then.
+// Tells an answer in the caller's buffer, after so many bytes that are written; how many are written then.
 pub(crate) fn tell(results: &mut [u8], written: usize, answer: Result<u16, Refusal>) -> usize
     requires { written + 4 ≤ length results.old }
     ensures count { result ≡ written + 4 }
     ensures told { results.new ≡ take written results.old ++ (result_bytes answer ++ drop (written + 4) results.old) }
 {
-    put(results, written, bytes_of(answer));
-    written + 4
-}
-
-// Tells that a record is bad.
-pub(crate) fn tell_bad(results: &mut [u8], written: usize) -> usize
-    requires { written + 4 ≤ length results.old }
-    ensures count { result ≡ written + 4 }
-    ensures told { results.new ≡ take written results.old ++ (bad_bytes ++ drop (written + 4) results.old) }
-{
-    put(results, written, bytes_of(Err(Refusal::BadRecord)));
+    results[written..written + 4].copy_from_slice(&bytes_of(answer));
     written + 4
 }

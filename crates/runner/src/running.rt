@@ -4,10 +4,11 @@ ghost use Rattle.chip.specs.Calls.{seen};
 ghost use Rattle.runner.specs.Results.{bad_bytes};
 ghost use Rattle.runner.specs.Played.{Ran, AcceptedIsPlayed};
 
-use crate::results;
+use crate::results::tell;
 use arrays::CellArray;
 use chip::Chip;
 use records::reader::first_record;
+use refusals::Refusal;
 
 // Whether one more record is looked at: some of the trace is left, and room for a result.
 fn goes_on(rest: &[u8], room: usize) -> bool
@@ -24,7 +25,7 @@ fn stop_at_bad(trace: &[u8], rest: &[u8], results: &mut [u8], written: usize) ->
     ensures count { result.1 ≡ written + 4 }
     ensures told { results.new ≡ take written results.old ++ (bad_bytes ++ drop (written + 4) results.old) }
 {
-    let after = results::tell_bad(results, written);
+    let after = tell(results, written, Err(Refusal::BadRecord));
     (trace.len() - rest.len(), after)
 }
 
@@ -43,7 +44,7 @@ pub fn run<A: CellArray>(chip: &mut Chip<A>, trace: &[u8], results: &mut [u8]) -
             return stop_at_bad(trace, left, results, written);
         };
         let answer = chip.play(call);
-        written = results::tell(results, written, answer);
+        written = tell(results, written, answer);
         left = next;
     }
     (trace.len() - left.len(), written)

@@ -1,14 +1,7 @@
 -- What the arguments choose. Assumes nothing.
-use Rattle.std.specs.Prelude.{ℕ, ◌<◌, ◌≤◌, cond, ◌&&◌, List, Some, None, codes, Option, nat_le, nat_lt}
+use Rattle.std.specs.Prelude.{ℕ, ◌<◌, ◌≤◌, cond, ◌&&◌, Some, None, Option, nat_le, nat_lt}
 use Rattle.rules.specs.declared.part.Part.{Part}
-use Rattle.rules.specs.declared.part.Part.TheVariants.{K9K1208, K9K1216, K9F2808}
 use Rattle.rules.specs.Parts.{most_blocks}
-
--- the bytes of a part's name
-abbrev pub part_name : Part → List ℕ
-part_name K9K1208 = codes "K9K1208"
-part_name K9K1216 = codes "K9K1216"
-part_name K9F2808 = codes "K9F2808"
 
 -- the part's most blocks, unless fewer are asked for; none where the part has not so many
 abbrev pub chosen_blocks : Part → Option ℕ → Option ℕ

@@ -1,27 +1,24 @@
 // What is printed of a comparison.
 use crate::settings::Settings;
+use crate::sides::TraceFile;
 use arrays::CellArray;
 use compare::answers::count_answers;
-use compare::cells::{apart_in_block, first_difference};
+use compare::cells::Pair;
 use compare::compare::Comparison;
-use refusals::Refusal;
 use std::io;
-
-fn side(rt: &HostRuntime, name: &str, answers: &[Result<u16, Refusal>]) -> io::Result<()> {
-    let tally = count_answers(answers);
-    let taken = tally.taken;
-    let refused = tally.refused;
-    println!(rt; "{name}: {taken} calls taken, {refused} refused")
-}
 
 pub fn answers(
     rt: &HostRuntime,
-    name: &str,
-    other_name: &str,
+    one: &TraceFile,
+    other: &TraceFile,
     comparison: &Comparison,
 ) -> io::Result<()> {
-    side(rt, name, comparison.answers.as_slice())?;
-    side(rt, other_name, comparison.other_answers.as_slice())?;
+    let name = one.name;
+    let tally = count_answers(&comparison.answers);
+    println!(rt; "{name}: {tally}")?;
+    let other_name = other.name;
+    let other_tally = count_answers(&comparison.other_answers);
+    println!(rt; "{other_name}: {other_tally}")?;
     if comparison.answers_equal {
         println!(rt; "  all answers are equal")
     } else {
@@ -38,12 +35,11 @@ pub fn equal(rt: &HostRuntime, settings: Settings) -> io::Result<()> {
 pub fn different<A: CellArray, B: CellArray>(
     rt: &HostRuntime,
     settings: Settings,
-    one: &A,
-    other: &B,
+    pair: Pair<A, B>,
 ) -> io::Result<()> {
     let columns = settings.part.columns();
     println!(rt; "  the chips are not equal in all cells")?;
-    if let Some(place) = first_difference(one, other, settings.blocks, columns as usize) {
+    if let Some(place) = pair.first_difference(settings.blocks, columns as usize) {
         let block = place.row / 32;
         let page = place.row % 32;
         let column = place.column;
@@ -54,7 +50,7 @@ pub fn different<A: CellArray, B: CellArray>(
         )?;
     }
     for block in 0..settings.blocks {
-        let apart = apart_in_block(one, other, block, columns);
+        let apart = pair.apart_in_block(block, columns);
         if apart > 0 {
             println!(rt; "  block {block}: {apart} words differ")?;
         }

@@ -1,10 +1,9 @@
 // What the arguments ask for: a word that is a part's name chooses the part, a number the number of blocks, and all others are files.
-ghost use Rattle.std.specs.Prelude.{◌≡◌, ℕ, ◌<◌, ◌≤◌, MatchOption, IfOk, ◌≢◌};
-ghost use Rattle.rules.specs.declared.part.Part.{Part};
+ghost use Rattle.std.specs.Prelude.{◌≡◌, ℕ, ◌<◌, ◌≤◌, IfOk};
 ghost use Rattle.rules.specs.Parts.{most_blocks};
-ghost use Rattle.sameimage.specs.Chosen.{part_name, chosen_blocks, Chosen};
+ghost use Rattle.sameimage.specs.Chosen.{chosen_blocks, Chosen};
 
-use anyhow::anyhow;
+use anyhow::Context;
 use rules::part::Part;
 use std::alloc::Global;
 
@@ -14,36 +13,13 @@ pub struct Settings {
     pub blocks: u32,
 }
 
-fn part_of(name: &str) -> Option<Part>
-    ensures { MatchOption result ((p : Part) → name.now ≢ part_name p) (λ p. name.now ≡ part_name p) }
-{
-    if name == "K9K1208" {
-        return Some(Part::K9K1208);
-    }
-    if name == "K9K1216" {
-        return Some(Part::K9K1216);
-    }
-    if name == "K9F2808" {
-        return Some(Part::K9F2808);
-    }
-    None
-}
-
 // The part's most blocks, unless fewer are asked for.
 fn blocks_of(part: Part, asked: Option<u32>) -> Option<u32>
     ensures { result ≡ chosen_blocks part asked }
 {
     let most = part.most_blocks();
-    match asked {
-        None => Some(most),
-        Some(blocks) => {
-            if 0 < blocks && blocks <= most {
-                Some(blocks)
-            } else {
-                None
-            }
-        }
-    }
+    let blocks = asked.unwrap_or(most);
+    (0 < blocks && blocks <= most).then_some(blocks)
 }
 
 // Sorts the arguments into names of files and settings; the part has so many blocks.
@@ -57,16 +33,14 @@ pub fn take_settings(
     let mut part = Part::K9K1208;
     let mut asked = None;
     for word in arguments {
-        if let Some(chosen) = part_of(word.as_str()) {
+        if let Ok(chosen) = word.parse() {
             part = chosen;
-        } else if let Ok(blocks) = word.as_str().parse::<u32>() {
+        } else if let Ok(blocks) = word.parse() {
             asked = Some(blocks);
         } else {
             names.push(word)?;
         }
     }
-    match blocks_of(part, asked) {
-        Some(blocks) => Ok((names, Settings { part, blocks })),
-        None => Err(anyhow!("the part has not so many blocks")),
-    }
+    let blocks = blocks_of(part, asked).context("the part has not so many blocks")?;
+    Ok((names, Settings { part, blocks }))
 }

@@ -1,5 +1,5 @@
 use Rattle.std.proofs.Common.{List, [], ◌∷◌, ◌++◌, length, get_or, take, vec_items, sym, refl, ap, ◌∙◌, subst, arith}
-use Rattle.std.proofs.lemmas.List.{take_more, take_all}
+use Rattle.std.proofs.lemmas.List.{take_more}
 use Rattle.records.specs.declared.call.Call.{Call}
 use Rattle.rules.specs.declared.control.Opening.{Opening}
 use Rattle.rules.specs.Answering.{Answer}
@@ -41,12 +41,3 @@ loop-call-preserved g c =
           (sym (take_more calls i (Call.Command 0) c.loop-call-test.true))
           (subst (λ (xs : List Answer). Played K o (see c.args.chip.now) (take i calls ++ call ∷ []) xs after) (sym c.push_reserved.ensures.items) more),
     )
-
-pub returns : goal.returns
-returns g c = record {
-  played = subst (λ (cs : List Call). Played g.A.Stored.Word.kind c.args.chip.now.opening (seen g.A.CellArray.meaning c.args.chip.now) cs
-      (vec_items c.loop-call.answers) (seen g.A.CellArray.meaning c.loop-call.chip))
-      (take_all c.loop-call.call-index c.args.calls.now c.loop-call-test.false) c.loop-call.invariant.5;
-  rest = c.loop-call.invariant.4;
-  opening = c.loop-call.invariant.3;
-}
