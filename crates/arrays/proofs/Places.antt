@@ -1,21 +1,10 @@
 -- Lemmas on lists of codes, and on writing a run of places one after another. Assumes nothing.
-use Rattle.std.proofs.Common.{◌≡◌, ℕ, zero, suc, ◌+◌, ◌<◌, ◌≤◌, true, List, [], ◌∷◌, length, map, get_or, drop, set, replicate, ◌++◌, refl, sym, ap, subst, ◌∙◌, ⊎_elim, le_of_suc-le-suc, not-suc-le-zero, add-one, arith, length-set, get_or-set_other, get_or-set_same}
+use Rattle.std.proofs.Common.{◌≡◌, ℕ, zero, suc, ◌+◌, ◌<◌, ◌≤◌, List, [], ◌∷◌, length, map, get_or, drop, set, replicate, ◌++◌, refl, sym, ap, subst, ◌∙◌, ⊎_elim, le_of_suc-le-suc, not-suc-le-zero, add-one, arith, length-set, get_or-set_other, get_or-set_same}
 use Rattle.std.proofs.lemmas.Grind.{common_steps}
 use Rattle.std.proofs.lemmas.List.{map-append, take-map, drop-map, length-map}
-use Rattle.std.proofs.lemmas.Bool.{and_parts, cases_lt}
-use Rattle.words.specs.Kind.{Kind, all_lawful}
+use Rattle.std.proofs.lemmas.Bool.{cases_lt}
+use Rattle.words.specs.Kind.{Kind}
 use Rattle.arrays.specs.Flat.{with_run, Joined, Put}
-
-pub lawful_at : (K : Kind) (cs : List ℕ) (i : ℕ) → all_lawful K cs ≡ true → i < length cs → K.lawful (get_or cs i 0) ≡ true
-lawful_at K [] i e h = absurd (not-suc-le-zero h)
-lawful_at K (c ∷ cs) zero e h = (and_parts _ _ e).0
-lawful_at K (c ∷ cs) (suc i) e h = lawful_at K cs i (and_parts _ _ e).1 (le_of_suc-le-suc h)
-
--- inside a list the default does not matter
-pub read_any : (xs : List ℕ) (i d e : ℕ) → i < length xs → get_or xs i d ≡ get_or xs i e
-read_any [] i d e h = absurd (not-suc-le-zero h)
-read_any (x ∷ xs) zero d e h = refl
-read_any (x ∷ xs) (suc i) d e h = read_any xs i d e (le_of_suc-le-suc h)
 
 -- one more place of a run that is written front to back
 module _ (new : List ℕ) (at i v : ℕ) (fits : at + i < length new) where
