@@ -1,5 +1,5 @@
 -- What an array holds after it was asked for something. Assumes nothing.
-use Rattle.std.proofs.Common.{◌≡◌, ℕ, ◌<◌, true, false, cond, ◌&&◌, eqb, ltb, sym, refl, ⊎_elim, arith}
+use Rattle.std.proofs.Common.{◌≡◌, ℕ, ◌<◌, true, cond, ◌&&◌, eqb, ltb, sym, refl, ⊎_elim, arith}
 use Rattle.std.proofs.lemmas.Bool.{and_parts, and_cases, cond_both, ltb-true, ltb-false, eqb-true, eqb-false, both_ways}
 use Rattle.words.specs.Kind.{Kind}
 use Rattle.arrays.specs.Meaning.{Shape, Contents, Meaning, Operation, accepts, performed, Performs}
@@ -7,10 +7,6 @@ use Rattle.arrays.specs.Meaning.{Shape, Contents, Meaning, Operation, accepts, p
 -- an array that accepts what is asked, and then holds what it should
 pub accepted : (K : Kind) (o : Operation) (m m' : Meaning) → accepts K m o ≡ true → m'.holds ≡ performed K o m.holds → Performs K o m true m'
 accepted K o m m' e h = record { told = sym e; holding = h; kept = λ f. absurd (both_ways true f refl) }
-
--- an array that does not accept it, and is as it was
-pub declined : (K : Kind) (o : Operation) (m : Meaning) → accepts K m o ≡ false → Performs K o m false m
-declined K o m e = record { told = sym e; holding = refl; kept = λ f. refl }
 
 -- two contents with one shape, and the same codes and counts at every place, are the same
 pub contents_same : {h k : Contents} → h.shape ≡ k.shape → ((row column : ℕ) → h.code row column ≡ k.code row column) → ((row : ℕ) → h.count row ≡ k.count row) → h ≡ k

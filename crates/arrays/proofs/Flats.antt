@@ -29,9 +29,6 @@ module _ (columns words counts : ℕ) where
   by_counts : n ≤ counts / 32
   by_counts = cond_both (ltb 0 columns && leb columns 4096) _ 0 (λ x. x ≤ counts / 32) (λ e. omega arith) (λ e. omega arith)
 
-  pub blocks_few : n ≤ 4096
-  blocks_few = cond_both (ltb 0 columns && leb columns 4096) _ 0 (λ x. x ≤ 4096) (λ e. omega arith) (λ e. omega arith)
-
   pub blocks_fit : n * (32 * columns) ≤ words
   blocks_fit = omega (arith, mul-le n (32 * columns) (words / (32 * columns)) (32 * columns) by_words (omega arith), div-add-mod' words (32 * columns))
 

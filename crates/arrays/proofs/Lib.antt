@@ -2,5 +2,4 @@ pub mod Places
 pub mod Asked
 pub mod Flats
 pub mod Rests
-pub mod Listed
 pub mod Stacked

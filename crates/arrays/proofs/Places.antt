@@ -1,28 +1,10 @@
 -- Lemmas on lists of codes, and on writing a run of places one after another. Assumes nothing.
-use Rattle.std.proofs.Common.{◌≡◌, ℕ, zero, suc, ◌+◌, ◌<◌, ◌≤◌, true, ◌&&◌, List, [], ◌∷◌, length, get_or, drop, set, refl, ap, ◌∙◌, ⊎_elim, le_of_suc-le-suc, not-suc-le-zero, add-one, arith, length-set, drop-cons, get_or-set_other, get_or-set_same}
-use Rattle.std.proofs.lemmas.Bool.{and_parts, cases_lt}
-use Rattle.words.specs.Kind.{Kind, all_lawful}
-use Rattle.arrays.specs.Flat.{Joined, Put}
-
-pub lawful_drop : (K : Kind) (cs : List ℕ) (i : ℕ) → i < length cs → all_lawful K (drop i cs) ≡ (K.lawful (get_or cs i 0) && all_lawful K (drop (i + 1) cs))
-lawful_drop K cs i h = rw (add-one i) (ap (all_lawful K) (drop-cons cs i 0 h))
-
-pub lawful_at : (K : Kind) (cs : List ℕ) (i : ℕ) → all_lawful K cs ≡ true → i < length cs → K.lawful (get_or cs i 0) ≡ true
-lawful_at K [] i e h = absurd (not-suc-le-zero h)
-lawful_at K (c ∷ cs) zero e h = (and_parts _ _ e).0
-lawful_at K (c ∷ cs) (suc i) e h = lawful_at K cs i (and_parts _ _ e).1 (le_of_suc-le-suc h)
-
-pub lawful_end : (K : Kind) (cs : List ℕ) (i : ℕ) → length cs ≤ i → all_lawful K (drop i cs) ≡ true
-lawful_end K [] zero h = refl
-lawful_end K [] (suc i) h = refl
-lawful_end K (c ∷ cs) zero h = absurd (not-suc-le-zero h)
-lawful_end K (c ∷ cs) (suc i) h = lawful_end K cs i (le_of_suc-le-suc h)
-
--- inside a list the default does not matter
-pub read_any : (xs : List ℕ) (i d e : ℕ) → i < length xs → get_or xs i d ≡ get_or xs i e
-read_any [] i d e h = absurd (not-suc-le-zero h)
-read_any (x ∷ xs) zero d e h = refl
-read_any (x ∷ xs) (suc i) d e h = read_any xs i d e (le_of_suc-le-suc h)
+use Rattle.std.proofs.Common.{◌≡◌, ℕ, zero, suc, ◌+◌, ◌<◌, ◌≤◌, List, [], ◌∷◌, length, map, get_or, drop, set, replicate, ◌++◌, refl, sym, ap, subst, ◌∙◌, ⊎_elim, le_of_suc-le-suc, not-suc-le-zero, add-one, arith, length-set, get_or-set_other, get_or-set_same}
+use Rattle.std.proofs.lemmas.Grind.{common_steps}
+use Rattle.std.proofs.lemmas.List.{map-append, take-map, drop-map, length-map}
+use Rattle.std.proofs.lemmas.Bool.{cases_lt}
+use Rattle.words.specs.Kind.{Kind}
+use Rattle.arrays.specs.Flat.{with_run, Joined, Put}
 
 -- one more place of a run that is written front to back
 module _ (new : List ℕ) (at i v : ℕ) (fits : at + i < length new) where
@@ -46,10 +28,34 @@ module _ (new : List ℕ) (at i v : ℕ) (fits : at + i < length new) where
     after = λ j p. other old j (λ z. omega arith) (h.after j (omega arith));
   }
 
-  pub put_more : (old : List ℕ) → Put old new at i v → Put old (set new (at + i) v) at (i + 1) v
-  put_more old h = record {
-    len = length-set new (at + i) v ∙ h.len;
-    inside = written (λ j. v) h.inside refl;
-    before = λ j p. other old j (λ z. omega arith) (h.before j p);
-    after = λ j p. other old j (λ z. omega arith) (h.after j (omega arith));
-  }
+-- one more place of a run of one value
+run_next : {X : Type 0} (xs : List X) (i : ℕ) (v : X) → i < length xs → set (replicate i v ++ drop i xs) i v ≡ replicate (suc i) v ++ drop (suc i) xs
+run_next [] i v h = absurd (not-suc-le-zero h)
+run_next (x ∷ xs) zero v h = refl
+run_next (x ∷ xs) (suc i) v h = ap (λ (l : List _). v ∷ l) (run_next xs i v (le_of_suc-le-suc h))
+
+pub run_more : {X : Type 0} (xs : List X) (i : ℕ) (v : X) → i < length xs → set (replicate i v ++ drop i xs) i v ≡ replicate (i + 1) v ++ drop (i + 1) xs
+run_more xs i v h = rw (add-one i) (run_next xs i v h)
+
+map_same : {X : Type 0} (f : X → ℕ) (n : ℕ) (v : X) → map f (replicate n v) ≡ replicate n (f v)
+map_same f zero v = refl
+map_same f (suc n) v = ap (λ (l : List ℕ). f v ∷ l) (map_same f n v)
+
+pub map_run : {X : Type 0} (f : X → ℕ) (xs : List X) (at n : ℕ) (v : X) → map f (with_run xs at n v) ≡ with_run (map f xs) at n (f v)
+map_run f xs at n v = simp (map-append, take-map, drop-map, map_same) refl
+
+pub put_run : (xs : List ℕ) (at n v : ℕ) → at + n ≤ length xs → Put xs (with_run xs at n v) at n v
+put_run xs at n v h = record {
+  len = grind (arith, common_steps);
+  inside = λ i p. grind (arith, common_steps);
+  before = λ j p. grind (arith, common_steps);
+  after = λ j p. grind (arith, common_steps);
+}
+
+-- a run of one value in stored words, as their codes see it
+pub put_codes : {X : Type 0} (f : X → ℕ) (old new : List X) (at n : ℕ) (v : X) → at + n ≤ length old → new ≡ with_run old at n v → Put (map f old) (map f new) at n (f v)
+put_codes f old new at n v h e =
+    subst (λ (l : List ℕ). Put (map f old) l at n (f v)) (sym (ap (map f) e ∙ map_run f old at n v)) (put_run (map f old) at n (f v) (omega (arith, length-map old f)))
+
+pub put_counts : (old new : List ℕ) (at n v : ℕ) → at + n ≤ length old → new ≡ with_run old at n v → Put old new at n v
+put_counts old new at n v h e = subst (λ (l : List ℕ). Put old l at n v) (sym e) (put_run old at n v h)

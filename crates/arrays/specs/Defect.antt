@@ -1,13 +1,13 @@
 -- An array with some blocks listed as defective. Assumes nothing.
-use Rattle.std.specs.Prelude.{ℕ, Bool, false, cond, not, ◌&&◌, ◌||◌, List, [], ◌∷◌, ◌++◌, length, Ok, Err, Result, ◌==◌, nat_lt}
+use Rattle.std.specs.Prelude.{ℕ, Bool, cond, not, ◌&&◌, List, [], ◌∷◌, ◌++◌, length, Ok, Err, Result, ◌==◌, nat_lt}
+use Rattle.std.specs.List.{list_any}
 use Rattle.refusals.specs.declared.Refusal.{Refusal}
 use Rattle.refusals.specs.declared.Refusal.TheVariants.{Outside, ListFull}
 use Rattle.arrays.specs.Meaning.{Meaning, block_of}
 
 -- the block is in the list
 abbrev pub listed : List ℕ → ℕ → Bool
-listed [] block = false
-listed (b ∷ bs) block = b == block || listed bs block
+listed list block = list_any (λ b. b == block) list
 
 -- A listed block is not willing, and neither are its rows; all else is as below.
 abbrev pub defect : Meaning → List ℕ → Meaning

@@ -1,5 +1,5 @@
 -- The flat array: a list of codes, row after row, and a list of counts. Assumes nothing.
-use Rattle.std.specs.Prelude.{◌≡◌, ℕ, ◌+◌, ◌*◌, ◌/◌, ◌<◌, ◌≤◌, min, Bool, cond, ◌&&◌, List, length, nat_le, nat_lt, slice_index, slice_index_or}
+use Rattle.std.specs.Prelude.{◌≡◌, ℕ, ◌+◌, ◌*◌, ◌/◌, ◌<◌, ◌≤◌, min, Bool, cond, ◌&&◌, List, ◌++◌, length, take, drop, replicate, nat_le, nat_lt, slice_index, slice_index_or}
 use Rattle.words.specs.Kind.{Kind}
 use Rattle.arrays.specs.Meaning.{Meaning, Shape, Contents, Operation, rows, accepts, asked, new_contents, always_willing}
 
@@ -9,6 +9,13 @@ flat_blocks columns words counts = cond (nat_lt 0 columns && nat_le columns 4096
 
 abbrev pub flat_shape : ℕ → List ℕ → List ℕ → Shape
 flat_shape columns codes counts = record { blocks = flat_blocks columns (length codes) (length counts); columns = columns }
+
+-- how many places of the words, and how many counts, the shape takes
+abbrev pub flat_places : ℕ → List ℕ → List ℕ → ℕ
+flat_places columns codes counts = flat_blocks columns (length codes) (length counts) * (32 * columns)
+
+abbrev pub flat_rows : ℕ → List ℕ → List ℕ → ℕ
+flat_rows columns codes counts = 32 * flat_blocks columns (length codes) (length counts)
 
 -- Row r and column c stand at place r × columns + c; a count byte above 15 counts as 15.
 abbrev pub flat_contents : Kind → ℕ → List ℕ → List ℕ → Contents
@@ -29,6 +36,10 @@ pub record Joined (K : Kind) (old new : List ℕ) (at : ℕ) (codes : List ℕ) 
   pub before : (j : ℕ) → j < at → slice_index new j ≡ slice_index old j
   pub after : (j : ℕ) → at + n ≤ j → slice_index new j ≡ slice_index old j
 
+-- the list with one value at the n places from `at` on
+abbrev pub with_run : {X : Type 0} → List X → ℕ → ℕ → X → List X
+with_run xs at n v = take at xs ++ (replicate n v ++ drop (at + n) xs)
+
 -- The n places from `at` on have one value; all others are as they were.
 pub record Put (old new : List ℕ) (at n value : ℕ) : Type 0 where
   pub len : length new ≡ length old
@@ -40,8 +51,8 @@ pub record Put (old new : List ℕ) (at n value : ℕ) : Type 0 where
 pub record Beyond (columns : ℕ) (codes counts codes' counts' : List ℕ) : Type 0 where
   pub codes_length : length codes' ≡ length codes
   pub counts_length : length counts' ≡ length counts
-  pub codes_kept : (i : ℕ) → flat_blocks columns (length codes) (length counts) * (32 * columns) ≤ i → slice_index codes' i ≡ slice_index codes i
-  pub counts_kept : (i : ℕ) → 32 * flat_blocks columns (length codes) (length counts) ≤ i → slice_index counts' i ≡ slice_index counts i
+  pub codes_kept : (i : ℕ) → flat_places columns codes counts ≤ i → slice_index codes' i ≡ slice_index codes i
+  pub counts_kept : (i : ℕ) → flat_rows columns codes counts ≤ i → slice_index counts' i ≡ slice_index counts i
 
 -- Memory under a flat array, which was asked for a program and then for a fill: which of them were done, what it holds after both, inside the shape and beyond.
 pub record AskedTwice (K : Kind) (columns : ℕ) (codes counts : List ℕ) (program fill : Operation) (programmed filled : Bool) (codes' counts' : List ℕ) : Type 0 where

@@ -1,6 +1,8 @@
 -- One array above another. Assumes nothing.
-use Rattle.std.specs.Prelude.{ℕ, ◌+◌, ◌-◌, min, false, cond, ◌==◌, nat_lt}
+use Rattle.std.specs.Prelude.{◌≡◌, ℕ, ◌+◌, ◌-◌, ◌<◌, ◌≤◌, min, false, cond, ◌==◌, nat_lt}
 use Rattle.words.specs.Kind.{Kind}
+use Rattle.arrays.specs.declared.stack.Place.{Place}
+use Rattle.arrays.specs.declared.stack.Place.TheVariants.{First, Second, Outside}
 use Rattle.arrays.specs.Meaning.{Shape, Contents, Meaning, rows}
 
 -- the blocks of both, at most 4,096; none where the columns differ
@@ -9,6 +11,12 @@ stack_blocks a b = cond (a.columns == b.columns) (min (a.blocks + b.blocks) 4096
 
 abbrev pub stack_shape : Shape → Shape → Shape
 stack_shape a b = record { blocks = stack_blocks a b; columns = a.columns }
+
+-- a block of the stack lies there
+abbrev pub Lies : Shape → Shape → ℕ → Place → Type 0
+Lies a b block First = (block < stack_blocks a b) × (block < a.blocks)
+Lies a b block (Second split) = (block < stack_blocks a b) × (a.blocks ≤ block) × (split ≡ a.blocks)
+Lies a b block Outside = stack_blocks a b ≤ block
 
 -- what stands at a row: in the first array, or in the second with its rows counted from there, or outside of both
 abbrev pub at_row : {X : Type 0} → Shape → Shape → (ℕ → X) → (ℕ → X) → X → ℕ → X

@@ -1,62 +1,62 @@
 // The defect array: any array, with up to 32 blocks listed that can be neither programmed nor filled.
-ghost use Rattle.std.specs.Prelude.{◌≡◌, ℕ, [], take};
+ghost use Rattle.std.specs.Prelude.{◌≡◌, ℕ, []};
 ghost use Rattle.words.specs.Kind.{Kind};
 ghost use Rattle.arrays.specs.Meaning.{Meaning, MeaningLaws, Performs};
 ghost use Rattle.arrays.specs.Defect.{defect, listed, listing, list_after};
 
 use crate::cell_array::CellArray;
-use crate::defect_list::DefectList;
+use arrayvec::ArrayVec;
 use refusals::Refusal;
 use words::Word;
+
+// The most blocks that may be listed.
+const MOST_LISTED: usize = 32;
 
 #[derive(Drop)]
 pub struct DefectArray<A> {
     below: A,
-    list: DefectList,
+    list: ArrayVec<usize, MOST_LISTED>,
 }
 
 impl<A: CellArray> DefectArray<A> {
     // No block is listed yet.
     pub fn new(below: A) -> Self
         ensures below { result.below ≡ below }
-        ensures list { take result.list.used result.list.blocks ≡ [] }
-        ensures meaning { defect (A.meaning result.below) (take result.list.used result.list.blocks) ≡ defect (A.meaning below) [] }
+        ensures list { result.list.items ≡ [] }
+        ensures meaning { defect (A.meaning result.below) result.list.items ≡ defect (A.meaning below) [] }
     {
         DefectArray {
             below,
-            list: DefectList::new(),
+            list: ArrayVec::new(),
         }
     }
 
     // The blocks that are listed, in the order in which they came.
     pub fn defects(&self) -> &[usize]
-        ensures { result.now ≡ take self.now.list.used self.now.list.blocks }
+        ensures { result.now ≡ self.now.list.items }
     {
-        self.list.entries()
+        self.list.as_slice()
     }
 
     fn is_defective(&self, block: usize) -> bool
-        ensures { result ≡ listed (take self.now.list.used self.now.list.blocks) block }
+        ensures { result ≡ listed self.now.list.items block }
     {
-        self.list.has(block)
+        self.list.contains(&block)
     }
 
     // Lists a block. One outside the array is refused; one that is listed already is taken and changes nothing; then a full list refuses.
     pub fn list(&mut self, block: usize) -> Result<u16, Refusal>
-        ensures answer { result ≡ listing (A.meaning self.old.below).holds.shape.blocks (take self.old.list.used self.old.list.blocks) block }
-        ensures after { take self.new.list.used self.new.list.blocks ≡ list_after (A.meaning self.old.below).holds.shape.blocks (take self.old.list.used self.old.list.blocks) block }
+        ensures answer { result ≡ listing (A.meaning self.old.below).holds.shape.blocks self.old.list.items block }
+        ensures after { self.new.list.items ≡ list_after (A.meaning self.old.below).holds.shape.blocks self.old.list.items block }
         ensures below { self.new.below ≡ self.old.below }
     {
         if block >= self.below.blocks() {
             return Err(Refusal::Outside);
         }
-        if self.list.has(block) {
+        if self.list.contains(&block) {
             return Ok(0);
         }
-        if self.list.is_full() {
-            return Err(Refusal::ListFull);
-        }
-        self.list.push(block);
+        self.list.try_push(block).map_err(|_| Refusal::ListFull)?;
         Ok(0)
     }
 }
@@ -64,7 +64,7 @@ impl<A: CellArray> DefectArray<A> {
 impl<A: CellArray> CellArray for DefectArray<A> {
     type Stored = A::Stored;
 
-    ghost meaning = { λ x. defect (A.CellArray.meaning x.below) (take x.list.used x.list.blocks) };
+    ghost meaning = { λ x. defect (A.CellArray.meaning x.below) x.list.items };
 
     ghost rest = { λ x. A.CellArray.rest x.below };
 

@@ -2,7 +2,7 @@
 ghost use Rattle.std.specs.Prelude.{◌≡◌, ℕ, ◌+◌, ◌*◌, ◌<◌, ◌≤◌, min, Bool, true, false, map, length};
 ghost use Rattle.words.specs.Kind.{Kind, KindLaws};
 ghost use Rattle.arrays.specs.Meaning.{Meaning, MeaningLaws, Performs, new_contents, always_willing};
-ghost use Rattle.arrays.specs.Flat.{flat, flat_blocks, flat_contents, flat_shape, Put};
+ghost use Rattle.arrays.specs.Flat.{flat, flat_contents, flat_places, flat_rows, flat_shape, Put};
 ghost use Rattle.arrays.specs.Rest.{lent, flat_lent};
 
 use crate::cell_array::CellArray;
@@ -19,23 +19,23 @@ pub struct FlatArray<'a, W> {
 
 // Erases every word of the shape that the memory has room for, and zeroes the counts of its rows.
 pub fn erase<W: Word>(words: &mut [W], counts: &mut [u8], columns: usize)
-    ensures erases { Put (map W.code words.old) (map W.code words.new) 0 (flat_blocks columns (length (map W.code words.old)) (length counts.old) * (32 * columns)) W.kind.erased }
-    ensures zeroes { Put counts.old counts.new 0 (32 * flat_blocks columns (length (map W.code words.old)) (length counts.old)) 0 }
+    ensures erases { Put (map W.code words.old) (map W.code words.new) 0 (flat_places columns (map W.code words.old) counts.old) W.kind.erased }
+    ensures zeroes { Put counts.old counts.new 0 (flat_rows columns (map W.code words.old) counts.old) 0 }
     ensures new { flat_contents W.kind columns (map W.code words.new) counts.new ≡ new_contents W.kind (flat_shape columns (map W.code words.old) counts.old) }
 {
     let n = memory::room(columns, words.len(), counts.len());
     // cut so that the product cannot overflow; where the columns are more there are no blocks
     let width = columns.min(4096);
     memory::put_first_blocks(words, n, width, W::erased());
-    memory::zero_first_blocks(counts, n);
+    memory::put_first_blocks(counts, n, 1, 0);
 }
 
 impl<'a, W: Word> FlatArray<'a, W> {
     // A new array over the memory: all that lies in its shape is erased, all else stays.
     pub fn new(words: &'a mut [W], counts: &'a mut [u8], columns: usize) -> Self
         ensures columns { result.columns ≡ columns }
-        ensures erases { Put (map W.code words.old) (map W.code result.words.now) 0 (flat_blocks columns (length (map W.code words.old)) (length counts.old) * (32 * columns)) W.kind.erased }
-        ensures zeroes { Put counts.old result.counts.now 0 (32 * flat_blocks columns (length (map W.code words.old)) (length counts.old)) 0 }
+        ensures erases { Put (map W.code words.old) (map W.code result.words.now) 0 (flat_places columns (map W.code words.old) counts.old) W.kind.erased }
+        ensures zeroes { Put counts.old result.counts.now 0 (flat_rows columns (map W.code words.old) counts.old) 0 }
         ensures new { flat W.kind result.columns (map W.code result.words.now) result.counts.now ≡ always_willing (new_contents W.kind (flat_shape columns (map W.code words.old) counts.old)) }
     {
         erase(words, counts, columns);
@@ -63,28 +63,23 @@ impl<'a, W: Word> CellArray for FlatArray<'a, W> {
     }
 
     fn code(&self, row: usize, column: usize) -> u16 {
-        if !memory::has_row(self.blocks(), row) {
-            return W::erased().to_code();
-        }
-        if column >= self.columns {
+        if !memory::has_row(self.blocks(), row) || column >= self.columns {
             return W::erased().to_code();
         }
         memory::code_at(self.words, row * self.columns + column)
     }
 
     fn count(&self, row: usize) -> u8 {
-        if !memory::has_row(self.blocks(), row) {
-            return 0;
+        if memory::has_row(self.blocks(), row) {
+            self.counts[row].min(15)
+        } else {
+            0
         }
-        self.counts[row].min(15)
     }
 
     fn program(&mut self, row: usize, codes: &[u16], closes: bool) -> bool {
         let columns = self.columns;
-        if !memory::has_row((*self).blocks(), row) {
-            return false;
-        }
-        if !memory::is_page::<W>(codes, columns) {
+        if !memory::has_row((*self).blocks(), row) || !memory::is_page::<W>(codes, columns) {
             return false;
         }
         memory::join_row(self.words, row * columns, codes);
@@ -93,18 +88,14 @@ impl<'a, W: Word> CellArray for FlatArray<'a, W> {
     }
 
     fn fill(&mut self, block: usize, code: u16) -> bool {
-        let columns = self.columns;
-        let n = (*self).blocks();
-        if block >= n {
+        if block >= (*self).blocks() {
             return false;
         }
-        match W::from_code(code) {
-            Err(_) => false,
-            Ok(word) => {
-                memory::put_block(self.words, block, columns, word);
-                memory::zero_block(self.counts, block);
-                true
-            }
-        }
+        let Ok(word) = W::from_code(code) else {
+            return false;
+        };
+        memory::put_block(self.words, block, self.columns, word);
+        memory::put_block(self.counts, block, 1, 0);
+        true
     }
 }

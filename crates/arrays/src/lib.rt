@@ -3,7 +3,6 @@
 
 pub mod cell_array;
 pub mod defect;
-mod defect_list;
 pub mod flat;
 pub mod job;
 pub mod lent;

@@ -2,7 +2,7 @@
 ghost use Rattle.std.specs.Prelude.{◌≡◌, ℕ, ◌+◌, ◌*◌, ◌<◌, ◌≤◌, min, true, ◌&&◌, map, length, ◌==◌, nat_lt, slice_index, slice_set};
 ghost use Rattle.words.specs.Kind.{Kind, all_lawful};
 ghost use Rattle.arrays.specs.Meaning.{counted};
-ghost use Rattle.arrays.specs.Flat.{flat_blocks, Joined, Put};
+ghost use Rattle.arrays.specs.Flat.{flat_blocks, with_run, Joined};
 
 use words::Word;
 
@@ -40,13 +40,7 @@ pub(crate) fn code_at<W: Word>(words: &[W], at: usize) -> u16
 fn all_lawful<W: Word>(codes: &[u16]) -> bool
     ensures { result ≡ all_lawful W.kind codes.now }
 {
-    for code in codes {
-        match W::from_code(*code) {
-            Ok(_) => {}
-            Err(_) => return false,
-        }
-    }
-    true
+    codes.iter().all(|code| W::from_code(*code).is_ok())
 }
 
 // Whether the codes are a page: one for each column, and all lawful.
@@ -61,10 +55,7 @@ fn joined<W: Word>(word: W, c: u16) -> W
     requires { W.kind.lawful c ≡ true }
     ensures { W.code result ≡ W.kind.join (W.code word) c }
 {
-    match W::from_code(c) {
-        Ok(other) => word.join(other),
-        Err(_) => word,
-    }
+    W::from_code(c).map_or(word, |other| word.join(other))
 }
 
 // Joins each code to the words from a place on.
@@ -73,8 +64,8 @@ pub(crate) fn join_row<W: Word>(words: &mut [W], at: usize, codes: &[u16])
     requires lawful { all_lawful W.kind codes.now ≡ true }
     ensures { Joined W.kind (map W.code words.old) (map W.code words.new) at codes.now (length codes.now) }
 {
-    for i in 0..codes.len() {
-        words[at + i] = joined(words[at + i], codes[i]);
+    for (i, code) in codes.iter().enumerate() {
+        words[at + i] = joined(words[at + i], *code);
     }
 }
 
@@ -87,57 +78,31 @@ pub(crate) fn count_program(counts: &mut [u8], row: usize, closes: bool)
     counts[row] = if closes || n >= 15 { 15 } else { n + 1 };
 }
 
-// Puts a word at each of n places.
-fn put_words<W: Word>(words: &mut [W], at: usize, n: usize, word: W)
-    requires { at + n ≤ length words.old }
-    ensures { Put (map W.code words.old) (map W.code words.new) at n (W.code word) }
+// Puts a value at each of n places.
+fn put<T: Copy>(places: &mut [T], at: usize, n: usize, value: T)
+    requires { at + n ≤ length places.old }
+    ensures { places.new ≡ with_run places.old at n value }
 {
-    for i in 0..n {
-        words[at + i] = word;
+    for place in &mut places[at..at + n] {
+        *place = value;
     }
 }
 
-// Zeroes n counts.
-fn zero_counts(counts: &mut [u8], at: usize, n: usize)
-    requires { at + n ≤ length counts.old }
-    ensures { Put counts.old counts.new at n 0 }
-{
-    for i in 0..n {
-        counts[at + i] = 0;
-    }
-}
-
-// Puts a word at every place of the first n blocks.
-pub(crate) fn put_first_blocks<W: Word>(words: &mut [W], n: usize, columns: usize, word: W)
+// Puts a value at every place of the first n blocks: their words, or with one place a row their counts.
+pub(crate) fn put_first_blocks<T: Copy>(places: &mut [T], n: usize, width: usize, value: T)
     requires few { n ≤ 4096 }
-    requires narrow { columns ≤ 4096 }
-    requires fits { n * (32 * columns) ≤ length words.old }
-    ensures { Put (map W.code words.old) (map W.code words.new) 0 (n * (32 * columns)) (W.code word) }
+    requires narrow { width ≤ 4096 }
+    requires fits { n * (32 * width) ≤ length places.old }
+    ensures { places.new ≡ with_run places.old 0 (n * (32 * width)) value }
 {
-    put_words(words, 0, n * (32 * columns), word);
+    put(places, 0, n * (32 * width), value);
 }
 
-// Zeroes the counts of the first n blocks.
-pub(crate) fn zero_first_blocks(counts: &mut [u8], n: usize)
-    requires { 32 * n ≤ length counts.old }
-    ensures { Put counts.old counts.new 0 (32 * n) 0 }
-{
-    zero_counts(counts, 0, 32 * n);
-}
-
-// Puts a word at every place of one block.
-pub(crate) fn put_block<W: Word>(words: &mut [W], block: usize, columns: usize, word: W)
+// Puts a value at every place of one block: its words, or with one place a row its counts.
+pub(crate) fn put_block<T: Copy>(places: &mut [T], block: usize, width: usize, value: T)
     requires few { block < 4096 }
-    requires fits { block * 32 * columns + 32 * columns ≤ length words.old }
-    ensures { Put (map W.code words.old) (map W.code words.new) (block * 32 * columns) (32 * columns) (W.code word) }
+    requires fits { block * 32 * width + 32 * width ≤ length places.old }
+    ensures { places.new ≡ with_run places.old (block * 32 * width) (32 * width) value }
 {
-    put_words(words, block * 32 * columns, 32 * columns, word);
-}
-
-// Zeroes the counts of one block.
-pub(crate) fn zero_block(counts: &mut [u8], block: usize)
-    requires { block * 32 + 32 ≤ length counts.old }
-    ensures { Put counts.old counts.new (block * 32) 32 0 }
-{
-    zero_counts(counts, block * 32, 32);
+    put(places, block * 32 * width, 32 * width, value);
 }

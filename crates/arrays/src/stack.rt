@@ -3,7 +3,7 @@ ghost use Rattle.std.specs.Prelude.{◌≡◌, ℕ, ◌+◌, ◌*◌, ◌<◌, �
 ghost use Rattle.words.specs.Kind.{Kind};
 ghost use Rattle.arrays.specs.Meaning.{Meaning, MeaningLaws, Performs};
 ghost use Rattle.arrays.specs.Rest.{both};
-ghost use Rattle.arrays.specs.Stack.{stack, stack_blocks};
+ghost use Rattle.arrays.specs.Stack.{stack, stack_blocks, Lies};
 
 use crate::cell_array::CellArray;
 use words::Word;
@@ -15,6 +15,14 @@ const MOST_BLOCKS: usize = 4096;
 pub struct Stack<A, B> {
     first: A,
     second: B,
+}
+
+// Where a block of the stack lies: in the first array, in the second, or in neither.
+enum Place {
+    First,
+    // with the number of the second's first block
+    Second(usize),
+    Outside,
 }
 
 impl<A: CellArray, B: CellArray<Stored = A::Stored>> Stack<A, B> {
@@ -38,6 +46,19 @@ impl<A: CellArray, B: CellArray<Stored = A::Stored>> Stack<A, B> {
             0
         }
     }
+
+    fn place(&self, block: usize) -> Place
+        ensures { Lies (A.CellArray.meaning self.now.first).holds.shape (B.CellArray.meaning self.now.second).holds.shape block result }
+    {
+        let split = self.first.blocks();
+        if block >= self.size() {
+            Place::Outside
+        } else if block < split {
+            Place::First
+        } else {
+            Place::Second(split)
+        }
+    }
 }
 
 impl<A: CellArray, B: CellArray<Stored = A::Stored>> CellArray for Stack<A, B> {
@@ -58,50 +79,34 @@ impl<A: CellArray, B: CellArray<Stored = A::Stored>> CellArray for Stack<A, B> {
     }
 
     fn code(&self, row: usize, column: usize) -> u16 {
-        if row / 32 >= self.size() {
-            return A::Stored::erased().to_code();
-        }
-        let split = self.first.blocks();
-        if row / 32 < split {
-            self.first.code(row, column)
-        } else {
-            self.second.code(row - 32 * split, column)
+        match self.place(row / 32) {
+            Place::First => self.first.code(row, column),
+            Place::Second(split) => self.second.code(row - 32 * split, column),
+            Place::Outside => A::Stored::erased().to_code(),
         }
     }
 
     fn count(&self, row: usize) -> u8 {
-        if row / 32 >= self.size() {
-            return 0;
-        }
-        let split = self.first.blocks();
-        if row / 32 < split {
-            self.first.count(row)
-        } else {
-            self.second.count(row - 32 * split)
+        match self.place(row / 32) {
+            Place::First => self.first.count(row),
+            Place::Second(split) => self.second.count(row - 32 * split),
+            Place::Outside => 0,
         }
     }
 
     fn program(&mut self, row: usize, codes: &[u16], closes: bool) -> bool {
-        if row / 32 >= self.size() {
-            return false;
-        }
-        let split = self.first.blocks();
-        if row / 32 < split {
-            self.first.program(row, codes, closes)
-        } else {
-            self.second.program(row - 32 * split, codes, closes)
+        match self.place(row / 32) {
+            Place::First => self.first.program(row, codes, closes),
+            Place::Second(split) => self.second.program(row - 32 * split, codes, closes),
+            Place::Outside => false,
         }
     }
 
     fn fill(&mut self, block: usize, code: u16) -> bool {
-        if block >= self.size() {
-            return false;
-        }
-        let split = self.first.blocks();
-        if block < split {
-            self.first.fill(block, code)
-        } else {
-            self.second.fill(block - split, code)
+        match self.place(block) {
+            Place::First => self.first.fill(block, code),
+            Place::Second(split) => self.second.fill(block - split, code),
+            Place::Outside => false,
         }
     }
 }

@@ -1,44 +1,45 @@
-// Why a call was refused: one enum for the whole project, and the number of each refusal.
+// Why a call was refused: one enum for the whole project, which gives each refusal its number.
 #![tactic(auto)]
 
 ghost use Rattle.std.specs.Prelude.{◌≡◌, ℕ, ◌≤◌, Some};
 ghost use Rattle.refusals.specs.Numbers.{number};
 ghost use Rattle.refusals.specs.Texts.{refusal_text};
 
+use std::error::Error;
 use std::fmt;
 
 #[derive(Clone, Copy, PartialEq, Eq, Debug)]
 pub enum Refusal {
     // the chip is dead: its part, limit and array do not fit together
-    Dead,
+    Dead = 1,
     // a code that the word kind does not have, or a pin level that is not 0 or 1
-    Unlawful,
+    Unlawful = 2,
     // the chip is busy, and does not know the call then
-    Busy,
+    Busy = 3,
     // an unknown command, or a cycle with no meaning in this state
-    Unknown,
+    Unknown = 4,
     // settle while nothing is under way
-    NotBusy,
+    NotBusy = 5,
     // a row or a block outside the array
-    Outside,
+    Outside = 6,
     // no column is left, or the column lies outside
-    NoColumn,
+    NoColumn = 7,
     // a program was to start with no word written
-    NoWord,
+    NoWord = 8,
     // the lock is tight, or a range of blocks ends before it starts
-    Locked,
+    Locked = 9,
     // write protect is low, or the block is not open
-    Protected,
+    Protected = 10,
     // the page has had as many programs as it may
-    PageFull,
+    PageFull = 11,
     // a copy-back between blocks of different planes
-    OtherPlane,
+    OtherPlane = 12,
     // the array failed
-    ArrayFailed,
+    ArrayFailed = 13,
     // a trace has an unknown mark or a short record
-    BadRecord,
+    BadRecord = 14,
     // the list of defective blocks is full
-    ListFull,
+    ListFull = 15,
 }
 
 impl Refusal {
@@ -49,26 +50,11 @@ impl Refusal {
         ensures high { result ≤ 15 }
         ensures own { (other : Refusal) → number other ≡ result → other ≡ self }
     {
-        match self {
-            Refusal::Dead => 1,
-            Refusal::Unlawful => 2,
-            Refusal::Busy => 3,
-            Refusal::Unknown => 4,
-            Refusal::NotBusy => 5,
-            Refusal::Outside => 6,
-            Refusal::NoColumn => 7,
-            Refusal::NoWord => 8,
-            Refusal::Locked => 9,
-            Refusal::Protected => 10,
-            Refusal::PageFull => 11,
-            Refusal::OtherPlane => 12,
-            Refusal::ArrayFailed => 13,
-            Refusal::BadRecord => 14,
-            Refusal::ListFull => 15,
-        }
+        self as u8
     }
 }
 
+// The impl is written out because a derived one states no output, and no clause could then say what is printed.
 impl fmt::Display for Refusal {
     ghost output = { λ refusal. Some (refusal_text refusal) };
 
@@ -94,3 +80,5 @@ impl fmt::Display for Refusal {
         }
     }
 }
+
+impl Error for Refusal {}

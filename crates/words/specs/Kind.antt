@@ -1,5 +1,6 @@
 -- A kind of word: a row of cells with ordered levels, and the laws that every kind keeps. Assumes nothing.
-use Rattle.std.specs.Prelude.{◌≡◌, ℕ, ◌<◌, ◌≤◌, min, Bool, true, ◌&&◌, List, [], ◌∷◌}
+use Rattle.std.specs.Prelude.{◌≡◌, ℕ, ◌<◌, ◌≤◌, min, Bool, true, List}
+use Rattle.std.specs.List.{list_all}
 
 pub record Kind : Type 0 where
   -- how many cells a word has, and the highest level of a cell; 0 is the lowest
@@ -31,5 +32,4 @@ pub record KindLaws (K : Kind) : Type 0 where
 
 -- every code of a list is lawful
 abbrev pub all_lawful : Kind → List ℕ → Bool
-all_lawful K [] = true
-all_lawful K (c ∷ cs) = K.lawful c && all_lawful K cs
+all_lawful K codes = list_all K.lawful codes

@@ -18,15 +18,11 @@ impl Word for u8 {
     ghost stored = { λ x. cut_lawful 8 x };
 
     fn to_code(self) -> u16 {
-        self as u16
+        u16::from(self)
     }
 
     fn from_code(c: u16) -> Result<u8, Refusal> {
-        if c < 256 {
-            Ok(c as u8)
-        } else {
-            Err(Refusal::Unlawful)
-        }
+        u8::try_from(c).map_err(|_| Refusal::Unlawful)
     }
 
     fn join(self, other: u8) -> u8 {

@@ -43,12 +43,11 @@ impl Word for DoubtingByte {
     ghost stored = { λ x. made_lawful x.erased x.doubtful record { low = x.low; high = x.high; apart = x.apart } };
 
     fn to_code(self) -> u16 {
-        self.erased as u16 + 256 * self.doubtful as u16
+        u16::from_le_bytes([self.erased, self.doubtful])
     }
 
     fn from_code(c: u16) -> Result<DoubtingByte, Refusal> {
-        let erased = (c % 256) as u8;
-        let doubtful = (c / 256) as u8;
+        let [erased, doubtful] = c.to_le_bytes();
         if erased & doubtful == 0 {
             Ok(DoubtingByte { erased, doubtful })
         } else {
@@ -85,8 +84,8 @@ impl Word for DoubtingByte {
     }
 
     fn torn_code(c: u16) -> u16 {
-        let erased = (c % 256) as u8;
-        erased as u16 + 256 * torn_doubt(erased) as u16
+        let [erased, _] = c.to_le_bytes();
+        u16::from_le_bytes([erased, torn_doubt(erased)])
     }
 
     fn torn_erase() -> DoubtingByte {

@@ -1,12 +1,5 @@
-use Rattle.std.proofs.Common.{length, ◌∙◌}
-use Rattle.arrays.proofs.Flats.{blocks_of_codes, flat_laws}
+use Rattle.arrays.proofs.Flats.{flat_laws}
 use Rattle.arrays.proofs.flat.FlatArrayCellArray.blocks.Goals as goal
 
-pub returns : goal.returns
-returns g c =
-    let s = c.args.self.now in
-    let w = g.W.Word in
-    record {
-      shape = c.room.ensures ∙ blocks_of_codes w.code s.columns s.words.now (length s.counts.now);
-      laws = flat_laws w.kind w.code w.laws w.stored s.columns s.words.now s.counts.now;
-    }
+pub returns-clause-laws : goal.returns-clause-laws
+returns-clause-laws g c = let w = g.W.Word in let s = c.args.self.now in flat_laws w.kind w.code w.laws w.stored s.columns s.words.now s.counts.now

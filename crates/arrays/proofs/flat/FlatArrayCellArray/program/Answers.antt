@@ -1,27 +1,25 @@
-use Rattle.std.proofs.Common.{ℕ, ◌*◌, ◌<◌, map, length, sym, subst, arith}
+use Rattle.std.proofs.Common.{ℕ, ◌*◌, ◌<◌, eqb, map, length, sym, subst, arith}
 use Rattle.std.proofs.lemmas.List.{length-map}
 use Rattle.std.proofs.lemmas.Bool.{and_from, and_parts, lt-ltb, ltb-true, eqb-true}
+use Rattle.words.specs.Kind.{all_lawful}
 use Rattle.arrays.specs.Flat.{flat_blocks, Joined}
 use Rattle.arrays.proofs.Asked.{accepted}
 use Rattle.arrays.proofs.Flats.{row_fits, flat_programmed}
 use Rattle.arrays.proofs.Rests.{rest_programmed}
 use Rattle.arrays.proofs.flat.FlatArrayCellArray.program.Goals as goal
 
-pub join_row-requires : goal.join_row-requires
-join_row-requires g c =
+pub join_row-requires-clause-fits : goal.join_row-requires-clause-fits
+join_row-requires-clause-fits g c =
     let s = c.args.self.now in
     let f = g.W.Word.code in
     let inside = ltb-true _ _ (sym c.if-not-has_row.ensures) in
-    let page = and_parts _ _ (sym c.if-not-is_page.ensures) in
-    record {
-      fits = omega (
-        arith,
-        row_fits s.columns (length (map f s.words.now)) (length s.counts.now) c.args.row (omega arith),
-        length-map s.words.now f,
-        eqb-true _ _ page.0,
-      );
-      lawful = page.1;
-    }
+    let page = and_parts (eqb (length c.args.codes.now) s.columns) (all_lawful g.W.Word.kind c.args.codes.now) (sym c.if-not-is_page.ensures) in
+    omega (
+      arith,
+      row_fits s.columns (length (map f s.words.now)) (length s.counts.now) c.args.row (omega arith),
+      length-map s.words.now f,
+      eqb-true (length c.args.codes.now) s.columns page.0,
+    )
 
 pub returns : goal.returns
 returns g c =

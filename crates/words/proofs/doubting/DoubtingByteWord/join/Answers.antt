@@ -1,5 +1,5 @@
--- The joined bytes fit, and have no set bit in common; their code is the join of the two codes.
-use Rattle.words.specs.DoubtingLaws.{Apart, apart_as, joined_apart, joined_code}
+-- The joined bytes fit, and have no set bit in common.
+use Rattle.words.specs.DoubtingLaws.{Apart, apart_as, joined_apart}
 use Rattle.words.specs.declared.doubting.DoubtingByte.{DoubtingByte}
 use Rattle.words.proofs.doubting.DoubtingByteWord.join.Goals as goal
 
@@ -11,8 +11,3 @@ invariant_of-result c =
     let made = c.joined_bytes-erased.ensures in
     let a = apart_as made.erased made.doubtful (joined_apart _ _ _ _ (bytes c.args.self) (bytes c.args.other)) in
     record { low = a.low; high = a.high; apart = a.apart }
-
-pub returns : goal.returns
-returns c =
-    let made = c.joined_bytes-erased.ensures in
-    joined_code _ _ _ _ (bytes c.args.self) (bytes c.args.other) made.erased made.doubtful
