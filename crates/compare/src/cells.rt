@@ -31,7 +31,7 @@ impl<'a, A: CellArray, B: CellArray> Pair<'a, A, B> {
     }
 
     // The first column of the row, of so many, at which the arrays differ.
-    fn first_in_row(&self, row: usize, columns: usize) -> Option<usize>
+    pub fn first_in_row(&self, row: usize, columns: usize) -> Option<usize>
         ensures { FirstApart ((A.CellArray.meaning self.now.one.now).holds.code row) ((B.CellArray.meaning self.now.other.now).holds.code row) columns result }
     {
         (0..columns).find(|column| !self.is_same(row, *column))

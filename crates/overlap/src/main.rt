@@ -1,7 +1,6 @@
 // One page written in two overlapping parts, in one order and in the other: a program only lowers cells, so both end alike.
 #![tactic(auto)]
 
-mod compare;
 mod page;
 mod show;
 

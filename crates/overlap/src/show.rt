@@ -1,7 +1,7 @@
 // What was done and what was found, in words.
-use crate::compare;
 use crate::page::COLUMNS;
 use arrays::CellArray;
+use compare::cells::Pair;
 use std::io;
 
 // The row that is programmed.
@@ -45,7 +45,7 @@ pub fn in_order<A: CellArray>(
 
 // Whether the row ended alike in two arrays.
 pub fn verdict<A: CellArray, B: CellArray>(rt: &HostRuntime, one: &A, other: &B) -> io::Result<()> {
-    match compare::first_difference(one, other, ROW, COLUMNS) {
+    match (Pair { one, other }).first_in_row(ROW, COLUMNS) {
         None => println!(rt; "  all {COLUMNS} words are alike in both orders")?,
         Some(column) => println!(rt; "  the two orders differ first at column {column}")?,
     }
