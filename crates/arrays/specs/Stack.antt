@@ -18,12 +18,15 @@ Lies a b block First = (block < stack_blocks a b) × (block < a.blocks)
 Lies a b block (Second split) = (block < stack_blocks a b) × (a.blocks ≤ block) × (split ≡ a.blocks)
 Lies a b block Outside = stack_blocks a b ≤ block
 
--- what stands at a row: in the first array, or in the second with its rows counted from there, or outside of both
+-- what stands at a number below `all`: in the first array, or in the second with its numbers counted from `split`; outside of both
+abbrev pub in_two : {X : Type 0} → ℕ → ℕ → (ℕ → X) → (ℕ → X) → X → ℕ → X
+in_two all split first second outside n = cond (nat_lt n all) (cond (nat_lt n split) (first n) (second (n - split))) outside
+
 abbrev pub at_row : {X : Type 0} → Shape → Shape → (ℕ → X) → (ℕ → X) → X → ℕ → X
-at_row a b first second outside row = cond (nat_lt row (rows (stack_shape a b))) (cond (nat_lt row (rows a)) (first row) (second (row - rows a))) outside
+at_row a b first second outside row = in_two (rows (stack_shape a b)) (rows a) first second outside row
 
 abbrev pub at_block : {X : Type 0} → Shape → Shape → (ℕ → X) → (ℕ → X) → X → ℕ → X
-at_block a b first second outside block = cond (nat_lt block (stack_blocks a b)) (cond (nat_lt block a.blocks) (first block) (second (block - a.blocks))) outside
+at_block a b first second outside block = in_two (stack_blocks a b) a.blocks first second outside block
 
 abbrev pub stack_contents : Kind → Contents → Contents → Contents
 stack_contents K a b = record {

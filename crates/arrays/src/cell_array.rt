@@ -6,6 +6,9 @@ ghost use Rattle.arrays.specs.Rest.{Rest};
 
 use words::Word;
 
+// The most blocks that an array has.
+pub(crate) const MOST_BLOCKS: usize = 4096;
+
 pub trait CellArray {
     // the stored word, which has the array's word kind
     type Stored: Word;

@@ -4,11 +4,10 @@ ghost use Rattle.words.specs.Kind.{Kind, all_lawful};
 ghost use Rattle.arrays.specs.Meaning.{counted};
 ghost use Rattle.arrays.specs.Flat.{flat_blocks, with_run, Joined};
 
+use crate::cell_array::MOST_BLOCKS;
 use words::Word;
 
-// The most blocks that an array has, and the most columns that a flat array takes.
-const MOST_BLOCKS: usize = 4096;
-
+// The most columns that a flat array takes.
 const MOST_COLUMNS: usize = 4096;
 
 // How many blocks the memory has room for.
@@ -64,6 +63,7 @@ pub(crate) fn join_row<W: Word>(words: &mut [W], at: usize, codes: &[u16])
     requires lawful { all_lawful W.kind codes.now ≡ true }
     ensures { Joined W.kind (map W.code words.old) (map W.code words.new) at codes.now (length codes.now) }
 {
+    // over the codes alone: of the words that a zip with `iter_mut` writes a proof learns nothing
     for (i, code) in codes.iter().enumerate() {
         words[at + i] = joined(words[at + i], *code);
     }
@@ -83,6 +83,7 @@ fn put<T: Copy>(places: &mut [T], at: usize, n: usize, value: T)
     requires { at + n ≤ length places.old }
     ensures { places.new ≡ with_run places.old at n value }
 {
+    // not `fill`, which asks that a clone succeeds: a bound by `Copy` does not say so
     for place in &mut places[at..at + n] {
         *place = value;
     }

@@ -5,11 +5,8 @@ ghost use Rattle.arrays.specs.Meaning.{Meaning, MeaningLaws, Performs};
 ghost use Rattle.arrays.specs.Rest.{both};
 ghost use Rattle.arrays.specs.Stack.{stack, stack_blocks, Lies};
 
-use crate::cell_array::CellArray;
+use crate::cell_array::{CellArray, MOST_BLOCKS};
 use words::Word;
-
-// The most blocks that a stack has.
-const MOST_BLOCKS: usize = 4096;
 
 #[derive(Drop)]
 pub struct Stack<A, B> {
@@ -34,24 +31,11 @@ impl<A: CellArray, B: CellArray<Stored = A::Stored>> Stack<A, B> {
         Stack { first, second }
     }
 
-    // The blocks of both, at most 4,096; none where the columns differ.
-    fn size(&self) -> usize
-        ensures { result ≡ stack_blocks (A.CellArray.meaning self.now.first).holds.shape (B.CellArray.meaning self.now.second).holds.shape }
-    {
-        let n = self.first.blocks();
-        let m = self.second.blocks();
-        if A::columns(&self.first) == B::columns(&self.second) {
-            n.saturating_add(m).min(MOST_BLOCKS)
-        } else {
-            0
-        }
-    }
-
     fn place(&self, block: usize) -> Place
         ensures { Lies (A.CellArray.meaning self.now.first).holds.shape (B.CellArray.meaning self.now.second).holds.shape block result }
     {
         let split = self.first.blocks();
-        if block >= self.size() {
+        if block >= self.blocks() {
             Place::Outside
         } else if block < split {
             Place::First
@@ -69,9 +53,13 @@ impl<A: CellArray, B: CellArray<Stored = A::Stored>> CellArray for Stack<A, B> {
     ghost rest = { λ x. both (A.CellArray.rest x.first) (B.CellArray.rest x.second) };
 
     fn blocks(&self) -> usize {
-        let _ = self.first.blocks();
-        let _ = self.second.blocks();
-        self.size()
+        let n = self.first.blocks();
+        let m = self.second.blocks();
+        if A::columns(&self.first) == B::columns(&self.second) {
+            n.saturating_add(m).min(MOST_BLOCKS)
+        } else {
+            0
+        }
     }
 
     fn columns(&self) -> usize {

@@ -4,9 +4,17 @@ use Rattle.std.proofs.Common.{sym, ap, ap₂, ◌∙◌, arith}
 use Rattle.std.specs.Int.Bits.{bit_and, bit_or, bit_xor, and_lt}
 use Rattle.std.proofs.lemmas.Nat.{or_lt, xor_lt}
 use Rattle.std.proofs.lemmas.Bool.{ltb-true, lt-ltb, eqb-true, eq-eqb, and_parts, and_from}
+use Rattle.std.specs.Int.{bit_at}
+use Rattle.std.proofs.lemmas.Nat.Bits.{bit_at-lt, bit_at_and, bit_at_or, bit_at_xor, bit_at_ones, bit_at-zero, same_from_bits_below}
 use Rattle.words.specs.Kind.{KindLaws}
-use Rattle.words.specs.Kinds.{bit, erased_cells, doubtful_cells, joined_doubt, doubting_kind, Doubted}
-use Rattle.words.specs.Bits.{bit_le, bit_of_and, bit_of_or, bit_of_xor, bits_same, bit_ones, bit_zero}
+use Rattle.words.specs.Kinds.{erased_cells, doubtful_cells, joined_doubt, doubting_kind, Doubted}
+
+-- one bit of a number
+bit_le : (n i : ℕ) → bit_at n i ≤ 1
+bit_le n i = omega (arith, bit_at-lt n i)
+
+pub bit_of_xor : (a b i : ℕ) → bit_at (bit_xor a b) i ≡ max (bit_at a i) (bit_at b i) - min (bit_at a i) (bit_at b i)
+bit_of_xor a b i = omega (arith, bit_at_xor a b i, bit_at-lt a i, bit_at-lt b i)
 
 -- two bytes with no set bit in common
 pub record Apart (b d : ℕ) : Type 0 where
@@ -22,14 +30,14 @@ bytes_of c l =
     record { low = omega arith; high = omega arith; apart = eqb-true _ 0 p.1 }
 
 -- a bit is not set in both
-apart_bit : (b d i : ℕ) → Apart b d → min (bit b i) (bit d i) ≡ 0
-apart_bit b d i a = sym (bit_of_and b d i) ∙ ap (λ (x : ℕ). bit x i) a.apart ∙ bit_zero i
+apart_bit : (b d i : ℕ) → Apart b d → min (bit_at b i) (bit_at d i) ≡ 0
+apart_bit b d i a = sym (bit_at_and b d i) ∙ ap (λ (x : ℕ). bit_at x i) a.apart ∙ bit_at-zero i
 
-bits_apart : (b d : ℕ) → b < 256 → d < 256 → ((i : ℕ) → min (bit b i) (bit d i) ≡ 0) → Apart b d
+bits_apart : (b d : ℕ) → b < 256 → d < 256 → ((i : ℕ) → min (bit_at b i) (bit_at d i) ≡ 0) → Apart b d
 bits_apart b d hb hd e = record {
   low = hb;
   high = hd;
-  apart = bits_same 8 (bit_and b d) 0 (and_lt 8 b d hb hd) (omega arith) (λ i h. bit_of_and b d i ∙ e i ∙ sym (bit_zero i));
+  apart = same_from_bits_below 8 (bit_and b d) 0 (and_lt 8 b d hb hd) (omega arith) (λ i h. bit_at_and b d i ∙ e i ∙ sym (bit_at-zero i));
 }
 
 -- two bytes that are equal to such bytes
@@ -44,7 +52,7 @@ module _ (b d : ℕ) (a : Apart b d) where
   high_of : doubtful_cells (b + 256 * d) ≡ d
   high_of = let h = a.low in omega arith
 
-  pub made_level : (i : ℕ) → doubting_kind.level (b + 256 * d) i ≡ 2 * bit b i + bit d i
+  pub made_level : (i : ℕ) → doubting_kind.level (b + 256 * d) i ≡ 2 * bit_at b i + bit_at d i
   made_level i = rw (low_of, high_of)
 
   pub made_lawful : doubting_kind.lawful (b + 256 * d) ≡ true
@@ -71,36 +79,36 @@ lower_level p q r s a b = omega arith
 
 -- the join, over the bytes of both sides
 module _ (b d b' d' : ℕ) (x : Apart b d) (y : Apart b' d') where
-  one_left : (i : ℕ) → bit b i + bit d i ≤ 1
-  one_left i = one_bit (bit b i) (bit d i) (bit_le b i) (bit_le d i) (apart_bit b d i x)
+  one_left : (i : ℕ) → bit_at b i + bit_at d i ≤ 1
+  one_left i = one_bit (bit_at b i) (bit_at d i) (bit_le b i) (bit_le d i) (apart_bit b d i x)
 
-  one_right : (i : ℕ) → bit b' i + bit d' i ≤ 1
-  one_right i = one_bit (bit b' i) (bit d' i) (bit_le b' i) (bit_le d' i) (apart_bit b' d' i y)
+  one_right : (i : ℕ) → bit_at b' i + bit_at d' i ≤ 1
+  one_right i = one_bit (bit_at b' i) (bit_at d' i) (bit_le b' i) (bit_le d' i) (apart_bit b' d' i y)
 
   -- the cells that are at least doubtful on both sides
-  both_bit : (i : ℕ) → bit (bit_and (bit_or b d) (bit_or b' d')) i ≡ min (bit b i + bit d i) (bit b' i + bit d' i)
+  both_bit : (i : ℕ) → bit_at (bit_and (bit_or b d) (bit_or b' d')) i ≡ min (bit_at b i + bit_at d i) (bit_at b' i + bit_at d' i)
   both_bit i =
-      let p : bit (bit_or b d) i ≡ bit b i + bit d i = bit_of_or b d i ∙ either_bit (bit b i) (bit d i) (apart_bit b d i x) in
-      let q : bit (bit_or b' d') i ≡ bit b' i + bit d' i = bit_of_or b' d' i ∙ either_bit (bit b' i) (bit d' i) (apart_bit b' d' i y) in
-      bit_of_and (bit_or b d) (bit_or b' d') i ∙ ap₂ min p q
+      let p : bit_at (bit_or b d) i ≡ bit_at b i + bit_at d i = bit_at_or b d i ∙ either_bit (bit_at b i) (bit_at d i) (apart_bit b d i x) in
+      let q : bit_at (bit_or b' d') i ≡ bit_at b' i + bit_at d' i = bit_at_or b' d' i ∙ either_bit (bit_at b' i) (bit_at d' i) (apart_bit b' d' i y) in
+      bit_at_and (bit_or b d) (bit_or b' d') i ∙ ap₂ min p q
 
-  doubt_bit : (i : ℕ) → bit (joined_doubt b d b' d') i ≡ min (bit b i + bit d i) (bit b' i + bit d' i) - min (bit b i) (bit b' i)
+  doubt_bit : (i : ℕ) → bit_at (joined_doubt b d b' d') i ≡ min (bit_at b i + bit_at d i) (bit_at b' i + bit_at d' i) - min (bit_at b i) (bit_at b' i)
   doubt_bit i =
       bit_of_xor (bit_and (bit_or b d) (bit_or b' d')) (bit_and b b') i
-      ∙ ap₂ (λ (u v : ℕ). max u v - min u v) (both_bit i) (bit_of_and b b' i)
-      ∙ left_over (min (bit b i + bit d i) (bit b' i + bit d' i)) (min (bit b i) (bit b' i)) (omega arith)
+      ∙ ap₂ (λ (u v : ℕ). max u v - min u v) (both_bit i) (bit_at_and b b' i)
+      ∙ left_over (min (bit_at b i + bit_at d i) (bit_at b' i + bit_at d' i)) (min (bit_at b i) (bit_at b' i)) (omega arith)
 
   pub joined_apart : Apart (bit_and b b') (joined_doubt b d b' d')
   joined_apart =
       let low = and_lt 8 b b' x.low y.low in
       let high = xor_lt 8 _ _ (and_lt 8 _ _ (or_lt 8 b d x.low x.high) (or_lt 8 b' d' y.low y.high)) low in
       bits_apart _ _ low high
-      (λ i. ap₂ min (bit_of_and b b' i) (doubt_bit i) ∙ lower_apart (bit b i) (bit d i) (bit b' i) (bit d' i) (one_left i) (one_right i))
+      (λ i. ap₂ min (bit_at_and b b' i) (doubt_bit i) ∙ lower_apart (bit_at b i) (bit_at d i) (bit_at b' i) (bit_at d' i) (one_left i) (one_right i))
 
-  joined_level : (i : ℕ) → 2 * bit (bit_and b b') i + bit (joined_doubt b d b' d') i ≡ min (2 * bit b i + bit d i) (2 * bit b' i + bit d' i)
+  joined_level : (i : ℕ) → 2 * bit_at (bit_and b b') i + bit_at (joined_doubt b d b' d') i ≡ min (2 * bit_at b i + bit_at d i) (2 * bit_at b' i + bit_at d' i)
   joined_level i =
-      ap₂ (λ (u v : ℕ). 2 * u + v) (bit_of_and b b' i) (doubt_bit i)
-      ∙ lower_level (bit b i) (bit d i) (bit b' i) (bit d' i) (one_left i) (one_right i)
+      ap₂ (λ (u v : ℕ). 2 * u + v) (bit_at_and b b' i) (doubt_bit i)
+      ∙ lower_level (bit_at b i) (bit_at d i) (bit_at b' i) (bit_at d' i) (one_left i) (one_right i)
 
   -- the code of the joined bytes is the join of the codes
   pub joined_code : {b'' d'' : ℕ} → b'' ≡ bit_and b b' → d'' ≡ joined_doubt b d b' d' → b'' + 256 * d'' ≡ doubting_kind.join (b + 256 * d) (b' + 256 * d')
@@ -108,8 +116,8 @@ module _ (b d b' d' : ℕ) (x : Apart b d) (y : Apart b' d') where
 
 -- the torn form: what is not erased is in doubt
 module _ (b : ℕ) (h : b < 256) where
-  flipped : (i : ℕ) → i < 8 → bit (bit_xor b 255) i ≡ 1 - bit b i
-  flipped i l = omega (arith, bit_of_xor b 255 i, bit_ones 8 i l, bit_le b i)
+  flipped : (i : ℕ) → i < 8 → bit_at (bit_xor b 255) i ≡ 1 - bit_at b i
+  flipped i l = omega (arith, bit_of_xor b 255 i, bit_at_ones 8 i l, bit_le b i)
 
   pub torn_apart : Apart b (bit_xor b 255)
   torn_apart =
@@ -117,11 +125,11 @@ module _ (b : ℕ) (h : b < 256) where
       record {
         low = h;
         high = high;
-        apart = bits_same 8 (bit_and b (bit_xor b 255)) 0 (and_lt 8 b _ h high) (omega arith)
-            (λ i l. bit_of_and b (bit_xor b 255) i ∙ omega (arith, flipped i l, bit_le b i) ∙ sym (bit_zero i));
+        apart = same_from_bits_below 8 (bit_and b (bit_xor b 255)) 0 (and_lt 8 b _ h high) (omega arith)
+            (λ i l. bit_at_and b (bit_xor b 255) i ∙ omega (arith, flipped i l, bit_le b i) ∙ sym (bit_at-zero i));
       }
 
-  torn_level : (i : ℕ) → i < 8 → doubting_kind.level (b + 256 * bit_xor b 255) i ≡ 1 + bit b i
+  torn_level : (i : ℕ) → i < 8 → doubting_kind.level (b + 256 * bit_xor b 255) i ≡ 1 + bit_at b i
   torn_level i l = omega (arith, made_level b (bit_xor b 255) torn_apart i, flipped i l, bit_le b i)
 
 -- The torn form of a code keeps the erased cells; it raises the lowest level and keeps the others.
@@ -142,7 +150,7 @@ doubting_laws = record {
   same = λ a b la lb e.
       let x = bytes_of a la in
       let y = bytes_of b lb in
-      let parts : (i : ℕ) → i < 8 → (bit (erased_cells a) i ≡ bit (erased_cells b) i) × (bit (doubtful_cells a) i ≡ bit (doubtful_cells b) i) =
+      let parts : (i : ℕ) → i < 8 → (bit_at (erased_cells a) i ≡ bit_at (erased_cells b) i) × (bit_at (doubtful_cells a) i ≡ bit_at (doubtful_cells b) i) =
       λ i h.
       let l = e i h in
       let p = bit_le (erased_cells a) i in
@@ -150,8 +158,8 @@ doubting_laws = record {
       let r = bit_le (doubtful_cells a) i in
       let s = bit_le (doubtful_cells b) i in
       (omega arith, omega arith) in
-      let low : erased_cells a ≡ erased_cells b = bits_same 8 _ _ x.low y.low (λ i h. (parts i h).0) in
-      let high : doubtful_cells a ≡ doubtful_cells b = bits_same 8 _ _ x.high y.high (λ i h. (parts i h).1) in
+      let low : erased_cells a ≡ erased_cells b = same_from_bits_below 8 _ _ x.low y.low (λ i h. (parts i h).0) in
+      let high : doubtful_cells a ≡ doubtful_cells b = same_from_bits_below 8 _ _ x.high y.high (λ i h. (parts i h).1) in
       omega arith;
   join_lawful = λ a b la lb. made_lawful _ _ (joined_apart _ _ _ _ (bytes_of a la) (bytes_of b lb));
   join_level = λ a b i la lb _.
@@ -159,7 +167,7 @@ doubting_laws = record {
       let y = bytes_of b lb in
       made_level _ _ (joined_apart _ _ _ _ x y) i ∙ joined_level _ _ _ _ x y i;
   erased_lawful = refl;
-  erased_top = λ i h. omega (arith, bit_ones 8 i h, bit_zero i);
+  erased_top = λ i h. omega (arith, bit_at_ones 8 i h, bit_at-zero i);
   torn_lawful = λ c l. made_lawful _ _ (torn_apart (erased_cells c) (bytes_of c l).low);
   torn_erase_lawful = refl;
 }

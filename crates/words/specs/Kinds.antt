@@ -1,18 +1,15 @@
 -- The three kinds of word. Assumes nothing.
 use Rattle.std.specs.Prelude.{◌≡◌, ℕ, ◌+◌, ◌-◌, ◌*◌, ◌/◌, ◌%◌, ◌^◌, ◌<◌, ◌≤◌, ◌&&◌, ◌==◌, bit_and, bit_or, bit_xor, nat_lt}
+use Rattle.std.specs.Int.{bit_at}
 use Rattle.words.specs.Kind.{Kind}
 
--- bit i of a number, the lowest first
-abbrev pub bit : ℕ → ℕ → ℕ
-bit n i = n / 2 ^ i % 2
-
--- n cells of one bit each: a cell's level is its bit, a torn form is the word itself, and a torn erase has erased
+-- n cells of one bit each, the lowest first: a cell's level is its bit, a torn form is the word itself, and a torn erase has erased
 abbrev pub binary_kind : ℕ → Kind
 binary_kind n = record {
   cells = n;
   top = 1;
   lawful = λ c. nat_lt c (2 ^ n);
-  level = bit;
+  level = bit_at;
   join = bit_and;
   erased = 2 ^ n - 1;
   torn = λ c. c;
@@ -43,7 +40,7 @@ doubting_kind = record {
   cells = 8;
   top = 2;
   lawful = λ c. nat_lt c 65536 && (bit_and (erased_cells c) (doubtful_cells c) == 0);
-  level = λ c i. 2 * bit (erased_cells c) i + bit (doubtful_cells c) i;
+  level = λ c i. 2 * bit_at (erased_cells c) i + bit_at (doubtful_cells c) i;
   join = λ x y. bit_and (erased_cells x) (erased_cells y) + 256 * joined_doubt (erased_cells x) (doubtful_cells x) (erased_cells y) (doubtful_cells y);
   erased = 0x00FF;
   torn = λ c. erased_cells c + 256 * bit_xor (erased_cells c) 255;

@@ -7,6 +7,7 @@ ghost use Rattle.words.specs.BinaryLaws.{binary_laws, cut_lawful};
 use crate::word::Word;
 use refusals::Refusal;
 
+// Its own impl and one for u16: a common one over a trait of such numbers would only call that trait, which both would still implement, for five of the eight methods.
 impl Word for u8 {
     ghost kind = { byte_kind };
 
