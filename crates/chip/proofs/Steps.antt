@@ -1,5 +1,6 @@
 -- A call is a step of the rules. Assumes nothing.
-use Rattle.std.proofs.Common.{◌≡◌, ℕ, Bool, true, false, cond, not, List, Some, None, Ok, Err, Option, sym, refl, ap, ◌∙◌, subst}
+use Rattle.std.proofs.Common.{◌≡◌, ℕ, cond, not, List, Option, sym, ap, ◌∙◌, subst, arith}
+use Rattle.std.proofs.Math.Bool.{not-not}
 use Rattle.refusals.specs.declared.Refusal.{Refusal}
 use Rattle.records.specs.declared.call.Call.{Call}
 use Rattle.words.specs.Kind.{Kind}
@@ -10,20 +11,13 @@ use Rattle.rules.specs.declared.control.Opening.{Opening}
 use Rattle.rules.specs.declared.control.Control.{Control}
 use Rattle.rules.specs.Controls.{under}
 use Rattle.rules.specs.Answering.{Answer, is_dead, answer}
-use Rattle.rules.specs.Asking.{Ending, none, whole, torn, ending, operation_of, operation}
+use Rattle.rules.specs.Asking.{Ending, ending, operation_of, operation}
 use Rattle.rules.specs.Moving.{refused_after, control_after}
 use Rattle.rules.specs.Running.{Chip as Seen, Step}
 use Rattle.chip.specs.Calls.{asks_of, asks, refused, moved, event, Called, CallsAreSteps}
 
 same_asking : (K : Kind) (p : Part) (codes : List ℕ) (e : Ending) (w : Option Work) → asks_of K p codes e w ≡ operation_of K p codes w e
-same_asking K p codes none None = refl
-same_asking K p codes none (Some w) = refl
-same_asking K p codes whole None = refl
-same_asking K p codes whole (Some (Work.Program row closes)) = refl
-same_asking K p codes whole (Some (Work.Erase block)) = refl
-same_asking K p codes torn None = refl
-same_asking K p codes torn (Some (Work.Program row closes)) = refl
-same_asking K p codes torn (Some (Work.Erase block)) = refl
+same_asking K p codes e w = grind arith
 
 same_operation : (K : Kind) (o : Opening) (c : Seen) (call : Call) → asks K o c call ≡ operation K o c.memory.holds.shape c.control call
 unfolding operation
@@ -32,30 +26,11 @@ same_operation K o c call =
     (same_asking K o.part c.control.register.codes (ending o.part call) (under c.control.state))
 
 same_refusal : (p : Part) (c : Control) (call : Call) (why : Refusal) → refused (ending p call) c why ≡ refused_after p c call why
-same_refusal p c call Refusal.Dead = refl
-same_refusal p c call Refusal.Unlawful = refl
-same_refusal p c call Refusal.Busy = refl
-same_refusal p c call Refusal.Unknown = refl
-same_refusal p c call Refusal.NotBusy = refl
-same_refusal p c call Refusal.Outside = refl
-same_refusal p c call Refusal.NoColumn = refl
-same_refusal p c call Refusal.NoWord = refl
-same_refusal p c call Refusal.Locked = refl
-same_refusal p c call Refusal.Protected = refl
-same_refusal p c call Refusal.PageFull = refl
-same_refusal p c call Refusal.OtherPlane = refl
-same_refusal p c call Refusal.ArrayFailed = refl
-same_refusal p c call Refusal.BadRecord = refl
-same_refusal p c call Refusal.ListFull = refl
+same_refusal p c call why = grind arith
 
 same_move : (K : Kind) (p : Part) (code : ℕ → ℕ → ℕ) (c : Control) (call : Call) (a : Answer) → moved K p code c call a ≡ control_after K p code c call a
 unfolding control_after
-same_move K p code c call (Ok value) = refl
-same_move K p code c call (Err why) = same_refusal p c call why
-
-not_not : (b : Bool) → not (not b) ≡ b
-not_not true = refl
-not_not false = refl
+same_move K p code c call a = grind (arith, same_refusal)
 
 pub step_of : {K : Kind} {o : Opening} {c : Seen} {call : Call} {a : Answer} {c' : Seen} → Called K o c call a c' → Step K o c (event K o c call a) c'
 unfolding answer
@@ -64,7 +39,7 @@ step_of {K} {o} {c} {call} {a} {c'} t =
     let same : accepts K c.memory (asks K o c call) ≡ accepts K c.memory (operation K o c.memory.holds.shape c.control call) = ap (accepts K c.memory) e in
     record {
       performs =
-          subst (λ b. Performs K (operation K o c.memory.holds.shape c.control call) c.memory b c'.memory) (same ∙ sym (not_not _))
+          subst (λ b. Performs K (operation K o c.memory.holds.shape c.control call) c.memory b c'.memory) (same ∙ sym (not-not _))
           (subst (λ x. Performs K x c.memory (accepts K c.memory (asks K o c call)) c'.memory) e t.performs);
       idle = λ z. t.idle (e ∙ z);
       answers = subst (λ b. a ≡ answer K o c.memory.holds (not b) c.control call) same t.answers;
@@ -80,7 +55,7 @@ call_of {K} {o} {c} {call} {a} {c'} t =
       answers = subst (λ b. a ≡ answer K o c.memory.holds (not b) c.control call) (sym same) t.answers;
       moves = t.moves ∙ sym (same_move K o.part c.memory.holds.code c.control call a);
       performs =
-          subst (λ b. Performs K (asks K o c call) c.memory b c'.memory) (not_not _ ∙ sym same)
+          subst (λ b. Performs K (asks K o c call) c.memory b c'.memory) (not-not _ ∙ sym same)
           (subst (λ x. Performs K x c.memory (not (event K o c call a).failed) c'.memory) (sym e) t.performs);
       idle = λ z. t.idle (sym e ∙ z);
     }

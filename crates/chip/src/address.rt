@@ -3,13 +3,14 @@ ghost use Rattle.std.specs.Prelude.{◌≡◌};
 ghost use Rattle.rules.specs.Answering.{apart};
 ghost use Rattle.rules.specs.Moving.{aim_of};
 ghost use Rattle.chip.specs.Calls.{seen, Called};
-ghost use Rattle.chip.specs.Cycles.{Arrived, Rowed};
+ghost use Rattle.chip.specs.Cycles.{Arrived, Addressed};
 
 use crate::Chip;
+use crate::starts::{has_row, is_full, refuse_start, rows_for};
 use arrays::CellArray;
 use records::call::Call;
 use refusals::Refusal;
-use rules::control::OpenRange;
+use rules::control::{Control, OpenRange, Opening};
 use rules::state::{Aim, Purpose, State, Work};
 
 // What the row cycles after a column cycle are for.
@@ -30,133 +31,124 @@ fn is_apart(a: u32, b: u32) -> bool
     a % 2 != b % 2 || (a / 2048) % 2 != (b / 2048) % 2
 }
 
+// The last cycle of a row.
+fn arrive<A: CellArray>(
+    control: &mut Control,
+    opening: Opening,
+    array: &A,
+    aim: Aim,
+    row: u32,
+) -> Result<u16, Refusal>
+    ensures { Arrived A.Stored.Word.kind opening (A.meaning array.now).holds control.old aim row result control.new }
+{
+    let part = opening.part;
+    let back = control.pointer.fallen_back();
+    let block = row / 32;
+    if !has_row(array, row) {
+        return Err(Refusal::Outside);
+    }
+    match aim {
+        Aim::Read { column } => {
+            control.register.fetch(array, part, row);
+            control.state = State::PageOut { row, next: column };
+            control.pointer = back;
+            Ok(0)
+        }
+        Aim::Load { column } => {
+            control.state = State::Load {
+                row,
+                next: column,
+                written: false,
+            };
+            control.pointer = back;
+            Ok(0)
+        }
+        Aim::Erase => {
+            control.state = State::EraseReady { row };
+            control.pointer = back;
+            Ok(0)
+        }
+        Aim::CopyBack { from } => {
+            if control.is_protected(part, row) {
+                return refuse_start(control, Refusal::Protected);
+            }
+            if is_full(opening, array, row) {
+                return refuse_start(control, Refusal::PageFull);
+            }
+            if is_apart(from / 32, block) {
+                return refuse_start(control, Refusal::OtherPlane);
+            }
+            control.state = State::Busy(Work::Program { row, closes: true });
+            Ok(0)
+        }
+        Aim::UnlockFirst => {
+            control.state = State::UnlockReady { first: block };
+            Ok(0)
+        }
+        Aim::UnlockLast { first } => {
+            if block < first {
+                return Err(Refusal::Locked);
+            }
+            control.range = Some(OpenRange { first, last: block });
+            control.state = State::Status;
+            Ok(0)
+        }
+        Aim::LockStatus => {
+            control.state = State::LockCode { block };
+            Ok(0)
+        }
+    }
+}
+
+// An address cycle of a chip that is not dead.
+fn cycle<A: CellArray>(
+    control: &mut Control,
+    opening: Opening,
+    array: &A,
+    byte: u8,
+) -> Result<u16, Refusal>
+    ensures { Addressed A.Stored.Word.kind opening (A.meaning array.now).holds control.old byte result control.new }
+{
+    let part = opening.part;
+    let column = part.start_column(control.pointer, byte);
+    match control.state {
+        State::Column(purpose) => {
+            control.state = rows_for(aim_of(column, purpose));
+            Ok(0)
+        }
+        State::PageOut { .. } => {
+            control.state = rows_for(Aim::Read { column });
+            Ok(0)
+        }
+        State::Row { aim, taken, row } => {
+            let row = part.next_row(row, taken, byte);
+            if part.is_last(taken) {
+                return arrive(control, opening, array, aim, row);
+            }
+            control.state = State::Row {
+                aim,
+                taken: taken + 1,
+                row,
+            };
+            Ok(0)
+        }
+        State::IdAddress => {
+            control.state = State::Id { next: 0 };
+            Ok(0)
+        }
+        State::Busy(_) => Err(Refusal::Busy),
+        _ => Err(Refusal::Unknown),
+    }
+}
+
 impl<A: CellArray> Chip<A> {
-    // The last cycle of a row.
-    fn arrive(&mut self, aim: Aim, row: u32) -> Result<u16, Refusal>
-        ensures arrived { Arrived A.Stored.Word.kind self.old.opening (A.meaning self.old.array).holds self.old.control aim row result self.new.control }
-        ensures array { self.new.array ≡ self.old.array }
-        ensures opening { self.new.opening ≡ self.old.opening }
-    {
-        let part = self.opening.part;
-        let back = self.control.pointer.fallen_back();
-        let block = row / 32;
-        if !self.has_row(row) {
-            return Err(Refusal::Outside);
-        }
-        match aim {
-            Aim::Read { column } => {
-                self.control.register.fetch(&self.array, part, row);
-                self.control.state = State::PageOut { row, next: column };
-                self.control.pointer = back;
-                Ok(0)
-            }
-            Aim::Load { column } => {
-                self.control.state = State::Load {
-                    row,
-                    next: column,
-                    written: false,
-                };
-                self.control.pointer = back;
-                Ok(0)
-            }
-            Aim::Erase => {
-                self.control.state = State::EraseReady { row };
-                self.control.pointer = back;
-                Ok(0)
-            }
-            Aim::CopyBack { from } => {
-                if self.control.is_protected(part, row) {
-                    return self.refuse_start(Refusal::Protected);
-                }
-                if self.is_full(row) {
-                    return self.refuse_start(Refusal::PageFull);
-                }
-                if is_apart(from / 32, block) {
-                    return self.refuse_start(Refusal::OtherPlane);
-                }
-                self.control.state = State::Busy(Work::Program { row, closes: true });
-                Ok(0)
-            }
-            Aim::UnlockFirst => {
-                self.control.state = State::UnlockReady { first: block };
-                Ok(0)
-            }
-            Aim::UnlockLast { first } => {
-                if block < first {
-                    return Err(Refusal::Locked);
-                }
-                self.control.range = Some(OpenRange { first, last: block });
-                self.control.state = State::Status;
-                Ok(0)
-            }
-            Aim::LockStatus => {
-                self.control.state = State::LockCode { block };
-                Ok(0)
-            }
-        }
-    }
-
-    // A row cycle, after `taken` others that came to `row`.
-    fn row_cycle(&mut self, aim: Aim, taken: u8, row: u32, byte: u8) -> Result<u16, Refusal>
-        ensures rowed { Rowed A.Stored.Word.kind self.old.opening (A.meaning self.old.array).holds self.old.control aim taken row byte result self.new.control }
-        ensures array { self.new.array ≡ self.old.array }
-        ensures opening { self.new.opening ≡ self.old.opening }
-    {
-        let part = self.opening.part;
-        let cycles = part.row_cycles();
-        let row = part.next_row(row, taken, byte);
-        if taken as u16 + 1 >= cycles as u16 {
-            return self.arrive(aim, row);
-        }
-        self.control.state = State::Row {
-            aim,
-            taken: taken + 1,
-            row,
-        };
-        Ok(0)
-    }
-
     // An address cycle.
     pub fn address(&mut self, byte: u8) -> Result<u16, Refusal>
         ensures called { Called A.Stored.Word.kind self.old.opening (seen A.meaning self.old) (Call.Address byte) result (seen A.meaning self.new) }
         ensures array { self.new.array ≡ self.old.array }
         ensures opening { self.new.opening ≡ self.old.opening }
     {
-        if self.is_dead() {
-            return Err(Refusal::Dead);
-        }
-        let part = self.opening.part;
-        let column = part.start_column(self.control.pointer, byte);
-        match &mut self.control.state {
-            State::Column(purpose) => {
-                let aim = aim_of(column, *purpose);
-                self.control.state = State::Row {
-                    aim,
-                    taken: 0,
-                    row: 0,
-                };
-                Ok(0)
-            }
-            State::PageOut { .. } => {
-                self.control.state = State::Row {
-                    aim: Aim::Read { column },
-                    taken: 0,
-                    row: 0,
-                };
-                Ok(0)
-            }
-            State::Row { aim, taken, row } => {
-                let aim = *aim;
-                let taken = *taken;
-                let row = *row;
-                self.row_cycle(aim, taken, row, byte)
-            }
-            State::IdAddress => {
-                self.control.state = State::Id { next: 0 };
-                Ok(0)
-            }
-            State::Busy(_) => Err(Refusal::Busy),
-            _ => Err(Refusal::Unknown),
-        }
+        self.alive()?;
+        cycle(&mut self.control, self.opening, &self.array, byte)
     }
 }

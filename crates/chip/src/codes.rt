@@ -21,8 +21,5 @@ pub fn torn_erase_code<W: Word>() -> u16
 pub fn is_lawful<W: Word>(code: u16) -> bool
     ensures { result ≡ W.kind.lawful code }
 {
-    match W::from_code(code) {
-        Ok(_) => true,
-        Err(_) => false,
-    }
+    W::from_code(code).is_ok()
 }

@@ -2,6 +2,7 @@
 ghost use Rattle.std.specs.Prelude.{◌≡◌};
 ghost use Rattle.chip.specs.Calls.{seen, Called};
 
+use crate::starts::has_row;
 use crate::{Chip, codes};
 use arrays::CellArray;
 use records::call::Call;
@@ -15,9 +16,7 @@ impl<A: CellArray> Chip<A> {
         ensures array { self.new.array ≡ self.old.array }
         ensures opening { self.new.opening ≡ self.old.opening }
     {
-        if self.is_dead() {
-            return Err(Refusal::Dead);
-        }
+        self.alive()?;
         let columns = self.opening.part.columns();
         if !codes::is_lawful::<A::Stored>(code) {
             return Err(Refusal::Unlawful);
@@ -44,9 +43,7 @@ impl<A: CellArray> Chip<A> {
         ensures array { self.new.array ≡ self.old.array }
         ensures opening { self.new.opening ≡ self.old.opening }
     {
-        if self.is_dead() {
-            return Err(Refusal::Dead);
-        }
+        self.alive()?;
         let part = self.opening.part;
         let device = self.opening.device as u16;
         let columns = part.columns();
@@ -87,9 +84,7 @@ impl<A: CellArray> Chip<A> {
         ensures array { self.new.array ≡ self.old.array }
         ensures opening { self.new.opening ≡ self.old.opening }
     {
-        if self.is_dead() {
-            return Err(Refusal::Dead);
-        }
+        self.alive()?;
         if level >= 2 {
             return Err(Refusal::Unlawful);
         }
@@ -110,10 +105,8 @@ impl<A: CellArray> Chip<A> {
     pub fn look(&self, row: u32, column: u16) -> Result<u16, Refusal>
         ensures { Called A.Stored.Word.kind self.now.opening (seen A.meaning self.now) (Call.Look row column) result (seen A.meaning self.now) }
     {
-        if self.is_dead() {
-            return Err(Refusal::Dead);
-        }
-        if !self.has_row(row) {
+        self.alive()?;
+        if !has_row(&self.array, row) {
             return Err(Refusal::Outside);
         }
         if column as usize >= self.array.columns() {

@@ -1,7 +1,7 @@
 // A chip over any array of cells: the seven calls, and the call that plays one of them.
 #![tactic(auto)]
 
-ghost use Rattle.std.specs.Prelude.{◌≡◌};
+ghost use Rattle.std.specs.Prelude.{◌≡◌, true, false, MatchResult};
 ghost use Rattle.arrays.specs.Meaning.{Meaning};
 ghost use Rattle.rules.specs.Answering.{is_dead, unless, done};
 ghost use Rattle.rules.specs.Controls.{fresh};
@@ -20,7 +20,6 @@ mod command;
 mod data;
 mod landing;
 pub mod laws;
-mod page;
 mod starts;
 
 #[derive(Drop)]
@@ -58,26 +57,24 @@ impl<A: CellArray> Chip<A> {
         &self.array
     }
 
-    // Whether part, limit and array do not fit together.
-    fn is_dead(&self) -> bool
-        ensures { result ≡ is_dead A.Stored.Word.kind self.now.opening (A.meaning self.now.array).holds.shape }
+    // Refused where part, limit and array do not fit together.
+    fn alive(&self) -> Result<(), Refusal>
+        ensures { MatchResult result (λ _. is_dead A.Stored.Word.kind self.now.opening (A.meaning self.now.array).holds.shape ≡ false)
+            (λ why. (why ≡ Refusal.Dead) × (is_dead A.Stored.Word.kind self.now.opening (A.meaning self.now.array).holds.shape ≡ true)) }
     {
         let cells = <A::Stored as Word>::cells();
         let columns = self.array.columns();
         let blocks = self.array.blocks();
         let fits = self.opening.fits(columns, blocks, cells as usize);
-        !fits
+        if fits { Ok(()) } else { Err(Refusal::Dead) }
     }
 
     // Whether the chip can be used: 0, or a refusal.
     pub fn check(&self) -> Result<u16, Refusal>
         ensures { result ≡ unless (is_dead A.Stored.Word.kind self.now.opening (A.meaning self.now.array).holds.shape) Refusal.Dead done }
     {
-        if self.is_dead() {
-            Err(Refusal::Dead)
-        } else {
-            Ok(0)
-        }
+        self.alive()?;
+        Ok(0)
     }
 
     // The call of that name.
@@ -110,11 +107,6 @@ impl<A: CellArray> Chip<A> {
     pub fn into_array(self) -> A
         ensures { result ≡ self.array }
     {
-        let Chip {
-            array,
-            control: _,
-            opening: _,
-        } = self;
-        array
+        self.array
     }
 }

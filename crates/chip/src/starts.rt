@@ -2,37 +2,44 @@
 ghost use Rattle.std.specs.Prelude.{◌≡◌, Err, nat_lt};
 ghost use Rattle.arrays.specs.Meaning.{rows};
 ghost use Rattle.rules.specs.Answering.{is_full};
-ghost use Rattle.rules.specs.Moving.{start_refused};
+ghost use Rattle.rules.specs.Moving.{rows_for, start_refused};
 
-use crate::Chip;
 use arrays::CellArray;
 use refusals::Refusal;
-use rules::state::State;
+use rules::control::{Control, Opening};
+use rules::state::{Aim, State};
 
-impl<A: CellArray> Chip<A> {
-    // Whether the array has the row.
-    pub(crate) fn has_row(&self, row: u32) -> bool
-        ensures { result ≡ nat_lt row (rows (A.meaning self.now.array).holds.shape) }
-    {
-        ((row / 32) as usize) < self.array.blocks()
-    }
+// Whether the array has the row.
+pub(crate) fn has_row<A: CellArray>(array: &A, row: u32) -> bool
+    ensures { result ≡ nat_lt row (rows (A.meaning array.now).holds.shape) }
+{
+    ((row / 32) as usize) < array.blocks()
+}
 
-    // Whether the row has had as many programs as it may.
-    pub(crate) fn is_full(&self, row: u32) -> bool
-        ensures { result ≡ is_full self.now.opening (A.meaning self.now.array).holds row }
-    {
-        self.opening.limit <= self.array.count(row as usize)
-    }
+// Whether the row has had as many programs as it may.
+pub(crate) fn is_full<A: CellArray>(opening: Opening, array: &A, row: u32) -> bool
+    ensures { result ≡ is_full opening (A.meaning array.now).holds row }
+{
+    opening.limit <= array.count(row as usize)
+}
 
-    // A start is refused: nothing has started, the fail bit is set, and read gives the status.
-    pub(crate) fn refuse_start(&mut self, why: Refusal) -> Result<u16, Refusal>
-        ensures answer { result ≡ Err why }
-        ensures control { self.new.control ≡ start_refused self.old.control }
-        ensures array { self.new.array ≡ self.old.array }
-        ensures opening { self.new.opening ≡ self.old.opening }
-    {
-        self.control.state = State::Status;
-        self.control.fail = true;
-        Err(why)
+// Row cycles are next, and none was taken.
+pub(crate) fn rows_for(aim: Aim) -> State
+    ensures { result ≡ rows_for aim }
+{
+    State::Row {
+        aim,
+        taken: 0,
+        row: 0,
     }
+}
+
+// A start is refused: nothing has started, the fail bit is set, and read gives the status.
+pub(crate) fn refuse_start(control: &mut Control, why: Refusal) -> Result<u16, Refusal>
+    ensures answer { result ≡ Err why }
+    ensures control { control.new ≡ start_refused control.old }
+{
+    control.state = State::Status;
+    control.fail = true;
+    Err(why)
 }

@@ -1,5 +1,6 @@
 -- The worked cases, computed. Assumes nothing.
-use Rattle.std.proofs.Common.{◌≡◌, Bool, true, false, not, [], ◌∷◌, sym, refl, ap, subst}
+use Rattle.std.proofs.Common.{◌≡◌, false, not, [], ◌∷◌, sym, refl, ap, subst}
+use Rattle.std.proofs.Math.Bool.{not-not}
 use Rattle.words.specs.Kind.{Kind}
 use Rattle.arrays.specs.Meaning.{Contents, Operation, nothing, accepts, asked, Performs, always_willing}
 use Rattle.rules.specs.Controls.{blank, page_of}
@@ -39,14 +40,10 @@ left K x h e = ap (λ b. asked K x b h) e
 performs : (K : Kind) (x : Operation) (h : Contents)
     → Performs K x (always_willing h) (not (not (accepts K (always_willing h) x))) (always_willing (asked K x (not (not (accepts K (always_willing h) x))) h))
 performs K x h = record {
-  told = twice (accepts K (always_willing h) x);
+  told = not-not (accepts K (always_willing h) x);
   holding = refl;
   kept = λ e. ap always_willing (left K x h e);
 }
-  where
-    twice : (b : Bool) → not (not b) ≡ b
-    twice true = refl
-    twice false = refl
 
 idle : (K : Kind) (x : Operation) (h : Contents) → x ≡ nothing
     → always_willing (asked K x (not (not (accepts K (always_willing h) x))) h) ≡ always_willing h

@@ -1,5 +1,5 @@
 -- What a call does to the codes of the array is what lands. Assumes nothing.
-use Rattle.std.proofs.Common.{◌≡◌, ℕ, ◌<◌, Bool, true, false, cond, not, ◌&&◌, eqb, ltb, ◌⊎◌, List, [], map, get_or, take, is_some, Some, None, Ok, Err, Option, refl, ap, ◌∙◌, inl, inr, arith}
+use Rattle.std.proofs.Common.{◌≡◌, ℕ, ◌<◌, Bool, true, false, cond, not, ◌&&◌, eqb, ltb, ◌⊎◌, List, [], get_or, take, is_some, Some, None, Ok, Err, Option, refl, ap, ◌∙◌, inl, inr, arith}
 use Rattle.std.proofs.lemmas.Bool.{lt-ltb, eqb-true, and_parts, not-false}
 use Rattle.refusals.specs.declared.Refusal.{Refusal}
 use Rattle.records.specs.declared.call.Call.{Call}
@@ -11,7 +11,6 @@ use Rattle.rules.specs.declared.state.Work.{Work}
 use Rattle.rules.specs.declared.control.Opening.{Opening}
 use Rattle.rules.specs.declared.control.Control.{Control}
 use Rattle.rules.specs.Parts.{columns}
-use Rattle.rules.specs.Commands.{decoded}
 use Rattle.rules.specs.Controls.{under}
 use Rattle.rules.specs.Answering.{Answer, done, unless, is_dead, answer_command, answer_cycle, answer_alive, answer}
 use Rattle.rules.specs.Asking.{Ending, none, whole, torn, command_ending, cycle_ending, ending, operation_of, operation}
@@ -32,10 +31,7 @@ within K o h column e near =
 
 -- the shape stays
 pub shape_kept : (K : Kind) (d : Bool) (x : Operation) (h : Contents) → (cond d (performed K x h) h).shape ≡ h.shape
-shape_kept K false x h = refl
-shape_kept K true nothing h = refl
-shape_kept K true (programs at page closes) h = refl
-shape_kept K true (fills at code) h = refl
+shape_kept K d x h = grind arith
 
 -- an operation is under way, and ends
 abbrev pub Ends : Option Work → Ending → Type 0
@@ -44,49 +40,26 @@ Ends (Some w) none = ⊥
 Ends (Some w) whole = Unit {0}
 Ends (Some w) torn = Unit {0}
 
-no_ends : (u : Option Work) → Ends u none → ⊥
+pub no_ends : (u : Option Work) → Ends u none → ⊥
 no_ends None e = e
 no_ends (Some w) e = e
 
 -- a call that ends an operation answers by the array alone
 ends_command : (o : Opening) (h : Contents) (f : Bool) (c : Control) (x : Command) → Ends (under c.state) (command_ending x)
     → answer_command o h f c x ≡ unless f Refusal.ArrayFailed done
-ends_command o h f c Command.ReadA z = absurd (no_ends (under c.state) z)
-ends_command o h f c Command.ReadB z = absurd (no_ends (under c.state) z)
-ends_command o h f c Command.ReadC z = absurd (no_ends (under c.state) z)
-ends_command o h f c Command.Load z = absurd (no_ends (under c.state) z)
-ends_command o h f c Command.Program z = absurd (no_ends (under c.state) z)
-ends_command o h f c Command.EraseSetup z = absurd (no_ends (under c.state) z)
-ends_command o h f c Command.EraseConfirm z = absurd (no_ends (under c.state) z)
-ends_command o h f c Command.CopyBack z = absurd (no_ends (under c.state) z)
-ends_command o h f c Command.Status z = absurd (no_ends (under c.state) z)
-ends_command o h f c Command.Id z = absurd (no_ends (under c.state) z)
-ends_command o h f c Command.Reset z = refl
-ends_command o h f c Command.Lock z = absurd (no_ends (under c.state) z)
-ends_command o h f c Command.LockTight z = absurd (no_ends (under c.state) z)
-ends_command o h f c Command.UnlockFirst z = absurd (no_ends (under c.state) z)
-ends_command o h f c Command.UnlockLast z = absurd (no_ends (under c.state) z)
-ends_command o h f c Command.LockStatus z = absurd (no_ends (under c.state) z)
+ends_command o h f c x z = grind arith
 
 ends_cycle : (o : Opening) (h : Contents) (f : Bool) (c : Control) (x : Option Command) → Ends (under c.state) (cycle_ending x)
     → answer_cycle o h f c x ≡ unless f Refusal.ArrayFailed done
-ends_cycle o h f c None z = absurd (no_ends (under c.state) z)
-ends_cycle o h f c (Some x) z = ends_command o h f c x z
+ends_cycle o h f c x z = grind (arith, ends_command)
 
 ends_settle : (u : Option Work) (f : Bool) → Ends u whole
     → unless (not (is_some u)) Refusal.NotBusy (unless f Refusal.ArrayFailed done) ≡ unless f Refusal.ArrayFailed done
-ends_settle None f z = absurd z
-ends_settle (Some w) f z = refl
+ends_settle u f z = grind arith
 
 pub ends_answer : (K : Kind) (o : Opening) (h : Contents) (f : Bool) (c : Control) (call : Call) → Ends (under c.state) (ending o.part call)
     → answer_alive K o h f c call ≡ unless f Refusal.ArrayFailed done
-ends_answer K o h f c (Call.Command b) z = ends_cycle o h f c (decoded o.part b) z
-ends_answer K o h f c (Call.Address b) z = absurd (no_ends (under c.state) z)
-ends_answer K o h f c (Call.Write w) z = absurd (no_ends (under c.state) z)
-ends_answer K o h f c Call.Read z = absurd (no_ends (under c.state) z)
-ends_answer K o h f c (Call.Protect l) z = absurd (no_ends (under c.state) z)
-ends_answer K o h f c Call.Settle z = ends_settle (under c.state) f z
-ends_answer K o h f c (Call.Look row column) z = absurd (no_ends (under c.state) z)
+ends_answer K o h f c call z = grind (arith, ends_cycle, ends_settle)
 
 abbrev if_taken : Answer → List Landing → List Landing
 if_taken (Ok v) ls = ls
@@ -94,15 +67,11 @@ if_taken (Err why) ls = []
 
 none_landed : (K : Kind) (h : Contents) (d : Bool) (a : Answer) → (cond d h h).code ≡ codes_after K (if_taken a []) h.code
 unfolding codes_after
-none_landed K h true (Ok v) = refl
-none_landed K h true (Err why) = refl
-none_landed K h false (Ok v) = refl
-none_landed K h false (Err why) = refl
+none_landed K h d a = grind arith
 
 -- inside the columns the guard holds
 guard : (q t : Bool) (x y : ℕ) → t ≡ true → cond (q && t) x y ≡ cond q x y
-guard true t x y e = rw e
-guard false t x y e = refl
+guard q t x y e = grind arith
 
 program_at : (K : Kind) (h : Contents) (at : ℕ) (page : List ℕ) (closes : Bool) (row column : ℕ) → column < h.shape.columns
     → (performed K (programs at page closes) h).code row column ≡ code_after K (programmed at page) h.code row column
@@ -119,23 +88,12 @@ ended_by : (K : Kind) (p : Part) (r : List ℕ) (h : Contents) (u : Option Work)
     → (Ends u n → a ≡ unless f Refusal.ArrayFailed done) → (row column : ℕ) → column < h.shape.columns
     → (cond (not f) (performed K (operation_of K p r u n) h) h).code row column ≡ codes_after K (if_taken a (landed_by K p r u n)) h.code row column
 unfolding codes_after
-ended_by K p r h None n f a e row column i = ap (λ g. g row column) (none_landed K h (not f) a)
-ended_by K p r h (Some w) none f a e row column i = ap (λ g. g row column) (none_landed K h (not f) a)
-ended_by K p r h (Some (Work.Program at closes)) whole true a e row column i = rw (e tt)
-ended_by K p r h (Some (Work.Program at closes)) whole false a e row column i = rw (e tt) (program_at K h at (take (columns p) r) closes row column i)
-ended_by K p r h (Some (Work.Program at closes)) torn true a e row column i = rw (e tt)
-ended_by K p r h (Some (Work.Program at closes)) torn false a e row column i =
-    rw (e tt) (program_at K h at (map K.torn (take (columns p) r)) closes row column i)
-ended_by K p r h (Some (Work.Erase block)) whole true a e row column i = rw (e tt)
-ended_by K p r h (Some (Work.Erase block)) whole false a e row column i = rw (e tt) (fill_at K h block K.erased row column i)
-ended_by K p r h (Some (Work.Erase block)) torn true a e row column i = rw (e tt)
-ended_by K p r h (Some (Work.Erase block)) torn false a e row column i = rw (e tt) (fill_at K h block K.torn_erase row column i)
+ended_by K p r h u n f a e row column i = grind (arith, none_landed, program_at, fill_at)
 
 landings_are : (K : Kind) (p : Part) (c : Control) (call : Call) (a : Answer)
     → landings K p c call a ≡ if_taken a (landed_by K p c.register.codes (under c.state) (ending p call))
 unfolding landings
-landings_are K p c call (Ok v) = refl
-landings_are K p c call (Err why) = refl
+landings_are K p c call a = grind arith
 
 ended : (K : Kind) (o : Opening) (h : Contents) (c : Control) (call : Call) (f : Bool) (a : Answer) → a ≡ answer K o h f c call
     → (row column : ℕ) → Near o.part h.shape column

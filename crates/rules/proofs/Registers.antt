@@ -1,7 +1,6 @@
 -- What the page register holds is lawful. Assumes nothing.
-use Rattle.std.proofs.Common.{◌≡◌, ℕ, zero, suc, ◌-◌, Bool, true, false, not, List, [], ◌∷◌, ◌++◌, map, get_or, take, set, replicate, Some, None, Ok, Err, Option, sym, refl}
+use Rattle.std.proofs.Common.{◌≡◌, ℕ, zero, suc, ◌-◌, ◌<◌, Bool, true, false, not, ltb, List, [], ◌∷◌, ◌++◌, map, get_or, take, set, replicate, Some, None, Ok, Err, Option, sym, refl, arith}
 use Rattle.std.specs.List.{range_with_len}
-use Rattle.std.proofs.lemmas.Bool.{cond_both}
 use Rattle.refusals.specs.declared.Refusal.{Refusal}
 use Rattle.records.specs.declared.call.Call.{Call}
 use Rattle.words.specs.Kind.{Kind, KindLaws}
@@ -12,11 +11,11 @@ use Rattle.rules.specs.declared.state.Aim.{Aim}
 use Rattle.rules.specs.declared.state.State.{State}
 use Rattle.rules.specs.declared.control.Opening.{Opening}
 use Rattle.rules.specs.declared.control.Control.{Control}
-use Rattle.rules.specs.Parts.{columns, is_last, next_row}
+use Rattle.rules.specs.Parts.{columns}
 use Rattle.rules.specs.Commands.{decoded}
 use Rattle.rules.specs.Controls.{places, blank, page_of}
-use Rattle.rules.specs.Answering.{Answer, unless, is_dead, answer}
-use Rattle.rules.specs.Asking.{Ending, none, whole, torn, ending}
+use Rattle.rules.specs.Answering.{Answer, done, unless, if_loading, is_dead, answer}
+use Rattle.rules.specs.Asking.{Ending}
 use Rattle.rules.specs.Moving.{arrived, address_after, write_after, command_after, cycle_after, protect_after, failed_after, refused_after, control_after}
 use Rattle.rules.proofs.Lows.{IsLawful}
 
@@ -26,36 +25,56 @@ LawfulPage K page = (k : ℕ) → IsLawful K (get_or page k K.erased)
 
 -- a refusal leaves the register
 failed_register : (c : Control) (e : Ending) → (failed_after c e).register ≡ c.register
-failed_register c none = refl
-failed_register c whole = refl
-failed_register c torn = refl
+failed_register c e = grind arith
 
 pub refused_register : (p : Part) (c : Control) (call : Call) (why : Refusal) → (refused_after p c call why).register ≡ c.register
-refused_register p c call Refusal.Dead = refl
-refused_register p c call Refusal.Unlawful = refl
-refused_register p c call Refusal.Busy = refl
-refused_register p c call Refusal.Unknown = refl
-refused_register p c call Refusal.NotBusy = refl
-refused_register p c call Refusal.Outside = refl
-refused_register p c call Refusal.NoColumn = refl
-refused_register p c call Refusal.NoWord = refl
-refused_register p c call Refusal.Locked = refl
-refused_register p c call Refusal.Protected = refl
-refused_register p c call Refusal.PageFull = refl
-refused_register p c call Refusal.OtherPlane = refl
-refused_register p c call Refusal.ArrayFailed = failed_register c (ending p call)
-refused_register p c call Refusal.BadRecord = refl
-refused_register p c call Refusal.ListFull = refl
+refused_register p c call why = grind (arith, failed_register)
 
--- a word that was taken is lawful
-taken_lawful : (d l : Bool) (rest : Answer) (v : ℕ) → unless d Refusal.Dead (unless (not l) Refusal.Unlawful rest) ≡ Ok v → l ≡ true
-taken_lawful true l rest v e = cc
-taken_lawful false true rest v e = refl
-taken_lawful false false rest v e = cc
+-- a word that was taken is lawful, and passed the tests of a load
+taken_word : (d l : Bool) (rest : Answer) (v : ℕ) → Ok v ≡ unless d Refusal.Dead (unless (not l) Refusal.Unlawful rest) → (l ≡ true) × (rest ≡ Ok v)
+taken_word true l rest v e = cc
+taken_word false true rest v e = (refl, sym e)
+taken_word false false rest v e = cc
 
-pub write_lawful : (K : Kind) (o : Opening) (h : Contents) (f : Bool) (c : Control) (w v : ℕ) → answer K o h f c (Call.Write w) ≡ Ok v → IsLawful K w
-unfolding answer
-write_lawful K o h f c w v e = taken_lawful (is_dead K o h.shape) (K.lawful w) _ v e
+-- A property of the register's codes that a blank register has, and a page, and codes in which a lawful word was put at a column of the part, is
+-- kept by every call.
+module _ (K : Kind) (o : Opening) (code : ℕ → ℕ → ℕ) (P : List ℕ → Type 0) (blanked : P (blank K.erased))
+    (paged : (row : ℕ) → P (page_of o.part K.erased (code row)))
+    (put : (codes : List ℕ) (i w : ℕ) → IsLawful K w → i < columns o.part → P codes → P (set codes i w)) where
+  command_keeps : (c : Control) (x : Command) → P c.register.codes → P (command_after K c x).register.codes
+  command_keeps c x t = grind arith
+
+  cycle_keeps : (c : Control) (x : Option Command) → P c.register.codes → P (cycle_after K c x).register.codes
+  cycle_keeps c None t = t
+  cycle_keeps c (Some x) t = command_keeps c x t
+
+  arrived_keeps : (c : Control) (row : ℕ) (a : Aim) → P c.register.codes → P (arrived K o.part code c row a).register.codes
+  arrived_keeps c row a t = grind arith
+
+  address_keeps : (c : Control) (b : ℕ) (s : State) → P c.register.codes → P (address_after K o.part code c b s).register.codes
+  address_keeps c b s t = grind (arith, arrived_keeps)
+
+  protect_keeps : (c : Control) (l : ℕ) → P c.register.codes → P (protect_after c l).register.codes
+  protect_keeps c l t = grind arith
+
+  write_keeps : (c : Control) (w : ℕ) (s : State) (v : ℕ) → IsLawful K w
+      → if_loading s (λ row next written. unless (not (ltb next (columns o.part))) Refusal.NoColumn done) ≡ Ok v
+      → P c.register.codes → P (write_after c w s).register.codes
+  write_keeps c w s v h e t = grind (arith, put)
+
+  pub keeps : (h : Contents) (f : Bool) (c : Control) (call : Call) (a : Answer) → a ≡ answer K o h f c call → P c.register.codes
+      → P (control_after K o.part code c call a).register.codes
+  unfolding answer control_after
+  keeps h f c (Call.Command x) (Ok v) e t = cycle_keeps c (decoded o.part x) t
+  keeps h f c (Call.Address x) (Ok v) e t = address_keeps c x c.state t
+  keeps h f c (Call.Write w) (Ok v) e t =
+      let z = taken_word (is_dead K o h.shape) (K.lawful w) _ v e in
+      write_keeps c w c.state v z.0 z.1 t
+  keeps h f c Call.Read (Ok v) e t = t
+  keeps h f c (Call.Protect l) (Ok v) e t = protect_keeps c l t
+  keeps h f c Call.Settle (Ok v) e t = t
+  keeps h f c (Call.Look row column) (Ok v) e t = t
+  keeps h f c call (Err why) e t = rw (refused_register o.part c call why) t
 
 module _ (K : Kind) (L : KindLaws K) where
   lawful_nil : LawfulPage K []
@@ -99,80 +118,8 @@ module _ (K : Kind) (L : KindLaws K) where
   lawful_page_of p f h =
       lawful_each f (range_with_len 0 (columns p)) (replicate (places - columns p) K.erased) h (lawful_replicate (places - columns p))
 
-  lawful_write : (c : Control) (w : ℕ) (s : State) → IsLawful K w → LawfulPage K c.register.codes → LawfulPage K (write_after c w s).register.codes
-  lawful_write c w (State.Column purpose) h t = t
-  lawful_write c w (State.Row aim taken row) h t = t
-  lawful_write c w (State.PageOut row next) h t = t
-  lawful_write c w (State.Load row next written) h t = lawful_set c.register.codes next w h t
-  lawful_write c w (State.EraseReady row) h t = t
-  lawful_write c w (State.UnlockReady first) h t = t
-  lawful_write c w State.Status h t = t
-  lawful_write c w State.IdAddress h t = t
-  lawful_write c w (State.Id next) h t = t
-  lawful_write c w (State.LockCode block) h t = t
-  lawful_write c w (State.Busy work) h t = t
-
-  lawful_command : (c : Control) (x : Command) → LawfulPage K c.register.codes → LawfulPage K (command_after K c x).register.codes
-  lawful_command c Command.ReadA t = t
-  lawful_command c Command.ReadB t = t
-  lawful_command c Command.ReadC t = t
-  lawful_command c Command.Load t = lawful_blank
-  lawful_command c Command.Program t = t
-  lawful_command c Command.EraseSetup t = t
-  lawful_command c Command.EraseConfirm t = t
-  lawful_command c Command.CopyBack t = t
-  lawful_command c Command.Status t = t
-  lawful_command c Command.Id t = t
-  lawful_command c Command.Reset t = t
-  lawful_command c Command.Lock t = t
-  lawful_command c Command.LockTight t = t
-  lawful_command c Command.UnlockFirst t = t
-  lawful_command c Command.UnlockLast t = t
-  lawful_command c Command.LockStatus t = t
-
-  lawful_cycle : (c : Control) (x : Option Command) → LawfulPage K c.register.codes → LawfulPage K (cycle_after K c x).register.codes
-  lawful_cycle c None t = t
-  lawful_cycle c (Some x) t = lawful_command c x t
-
-  lawful_protect : (c : Control) (l : ℕ) → LawfulPage K c.register.codes → LawfulPage K (protect_after c l).register.codes
-  lawful_protect c zero t = t
-  lawful_protect c (suc l) t = t
-
-  module _ (code : ℕ → ℕ → ℕ) (codes : (row column : ℕ) → IsLawful K (code row column)) where
-    lawful_arrived : (p : Part) (c : Control) (row : ℕ) (a : Aim) → LawfulPage K c.register.codes
-        → LawfulPage K (arrived K p code c row a).register.codes
-    lawful_arrived p c row (Aim.Read column) t = lawful_page_of p (code row) (codes row)
-    lawful_arrived p c row (Aim.Load column) t = t
-    lawful_arrived p c row Aim.Erase t = t
-    lawful_arrived p c row (Aim.CopyBack source) t = t
-    lawful_arrived p c row Aim.UnlockFirst t = t
-    lawful_arrived p c row (Aim.UnlockLast first) t = t
-    lawful_arrived p c row Aim.LockStatus t = t
-
-    lawful_address : (p : Part) (c : Control) (b : ℕ) (s : State) → LawfulPage K c.register.codes
-        → LawfulPage K (address_after K p code c b s).register.codes
-    lawful_address p c b (State.Column purpose) t = t
-    lawful_address p c b (State.Row aim taken row) t =
-        cond_both (is_last p taken) _ _ (λ (x : Control). LawfulPage K x.register.codes) (λ _. lawful_arrived p c (next_row p row taken b) aim t) (λ _. t)
-    lawful_address p c b (State.PageOut row next) t = t
-    lawful_address p c b (State.Load row next written) t = t
-    lawful_address p c b (State.EraseReady row) t = t
-    lawful_address p c b (State.UnlockReady first) t = t
-    lawful_address p c b State.Status t = t
-    lawful_address p c b State.IdAddress t = t
-    lawful_address p c b (State.Id next) t = t
-    lawful_address p c b (State.LockCode block) t = t
-    lawful_address p c b (State.Busy work) t = t
-
   pub register_lawful : (code : ℕ → ℕ → ℕ) (o : Opening) (h : Contents) (f : Bool) (c : Control) (call : Call) (a : Answer)
       → a ≡ answer K o h f c call → ((row column : ℕ) → IsLawful K (code row column)) → LawfulPage K c.register.codes
       → LawfulPage K (control_after K o.part code c call a).register.codes
-  unfolding control_after
-  register_lawful code o h f c (Call.Command x) (Ok v) e codes r = lawful_cycle c (decoded o.part x) r
-  register_lawful code o h f c (Call.Address x) (Ok v) e codes r = lawful_address code codes o.part c x c.state r
-  register_lawful code o h f c (Call.Write w) (Ok v) e codes r = lawful_write c w c.state (write_lawful K o h f c w v (sym e)) r
-  register_lawful code o h f c Call.Read (Ok v) e codes r = r
-  register_lawful code o h f c (Call.Protect l) (Ok v) e codes r = lawful_protect c l r
-  register_lawful code o h f c Call.Settle (Ok v) e codes r = r
-  register_lawful code o h f c (Call.Look row column) (Ok v) e codes r = r
-  register_lawful code o h f c call (Err why) e codes r = rw (refused_register o.part c call why) r
+  register_lawful code o h f c call a e codes r =
+      keeps K o code (LawfulPage K) lawful_blank (λ row. lawful_page_of o.part (code row) (codes row)) (λ xs i w l _ t. lawful_set xs i w l t) h f c call a e r

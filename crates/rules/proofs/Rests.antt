@@ -1,6 +1,6 @@
 -- Which calls leave the array, and what refusals leave. Assumes nothing.
-use Rattle.std.proofs.Common.{◌≡◌, ℕ, ◌≤◌, Bool, true, false, cond, not, eqb, ltb, ◌⊎◌, List, is_some, Some, None, Ok, Err, Option, sym, refl, ap, ◌∙◌, subst, inl, inr, arith}
-use Rattle.std.proofs.lemmas.Bool.{cases_Bool, eqb-true}
+use Rattle.std.proofs.Common.{◌≡◌, ℕ, ◌≤◌, Bool, true, false, cond, not, ltb, ◌⊎◌, List, is_some, Ok, Err, Option, sym, refl, ap, ◌∙◌, subst, inl, inr, arith}
+use Rattle.std.proofs.lemmas.Bool.{cases_Bool}
 use Rattle.refusals.specs.declared.Refusal.{Refusal}
 use Rattle.refusals.specs.Numbers.{number}
 use Rattle.records.specs.declared.call.Call.{Call}
@@ -11,21 +11,18 @@ use Rattle.rules.specs.declared.command.Command.{Command}
 use Rattle.rules.specs.declared.state.Work.{Work}
 use Rattle.rules.specs.declared.control.Opening.{Opening}
 use Rattle.rules.specs.declared.control.Control.{Control}
-use Rattle.rules.specs.Commands.{knows, if_known, decoded}
+use Rattle.rules.specs.Commands.{decoded}
 use Rattle.rules.specs.Controls.{under}
 use Rattle.rules.specs.Answering.{Answer, done, unless, is_dead, answer_alive, answer}
-use Rattle.rules.specs.Asking.{Ending, none, whole, torn, command_ending, cycle_ending, ending, operation_of, operation}
-use Rattle.rules.specs.Moving.{refused_after, control_after}
+use Rattle.rules.specs.Asking.{Ending, none, torn, command_ending, cycle_ending, ending, operation_of, operation}
+use Rattle.rules.specs.Moving.{start_refused, refused_after, control_after}
 use Rattle.rules.specs.Running.{Chip, Event, Step}
-use Rattle.rules.specs.Conduct.{LowRefusalsChangeNothing, NotStarted, RefusedStarts, FailuresAreTold, LookChangesNothing, DeadChipsAnswer1, OnlyLandingsChangeCells}
+use Rattle.rules.specs.Conduct.{LowRefusalsChangeNothing, RefusedStarts, FailuresAreTold, LookChangesNothing, DeadChipsAnswer1, OnlyLandingsChangeCells}
 use Rattle.rules.proofs.Failures.{says_failed, told}
-use Rattle.rules.proofs.Landed.{Ends, ends_answer}
+use Rattle.rules.proofs.Landed.{Ends, no_ends, ends_answer}
 
 ends_or_not : (K : Kind) (p : Part) (r : List ℕ) (u : Option Work) (n : Ending) → Ends u n ⊎ (operation_of K p r u n ≡ nothing)
-ends_or_not K p r None n = inr refl
-ends_or_not K p r (Some w) none = inr refl
-ends_or_not K p r (Some w) whole = inl tt
-ends_or_not K p r (Some w) torn = inl tt
+ends_or_not K p r u n = grind arith
 
 -- a call to a live chip that ends what is under way
 record EndingCall (K : Kind) (o : Opening) (c : Chip) (e : Event) : Type 0 where
@@ -51,8 +48,7 @@ ends_or_rests K o c c' e t = go (is_dead K o c.memory.holds.shape) refl t.idle t
 
 -- what ends an operation is refused by 13 alone
 by_13 : (f : Bool) (a : Answer) (why : Refusal) → a ≡ unless f Refusal.ArrayFailed done → a ≡ Err why → number why ≡ 13
-by_13 true a why p q = let e : why ≡ Refusal.ArrayFailed = cc in ap number e
-by_13 false a why p q = cc
+by_13 f a why p q = grind arith
 
 rests_at : (K : Kind) (o : Opening) (c c' : Chip) (e : Event) (why : Refusal) → Step K o c e c' → e.answer ≡ Err why → number why ≤ 12
     → c'.memory ≡ c.memory
@@ -68,21 +64,7 @@ moved_by K o c c' e why t a =
     subst (λ x. c'.control ≡ control_after K o.part c.memory.holds.code c.control e.call x) a t.moves
 
 low_kept : (p : Part) (c : Control) (call : Call) (why : Refusal) → number why ≤ 9 → refused_after p c call why ≡ c
-low_kept p c call Refusal.Dead n = refl
-low_kept p c call Refusal.Unlawful n = refl
-low_kept p c call Refusal.Busy n = refl
-low_kept p c call Refusal.Unknown n = refl
-low_kept p c call Refusal.NotBusy n = refl
-low_kept p c call Refusal.Outside n = refl
-low_kept p c call Refusal.NoColumn n = refl
-low_kept p c call Refusal.NoWord n = refl
-low_kept p c call Refusal.Locked n = refl
-low_kept p c call Refusal.Protected n = absurd (omega arith)
-low_kept p c call Refusal.PageFull n = absurd (omega arith)
-low_kept p c call Refusal.OtherPlane n = absurd (omega arith)
-low_kept p c call Refusal.ArrayFailed n = absurd (omega arith)
-low_kept p c call Refusal.BadRecord n = refl
-low_kept p c call Refusal.ListFull n = refl
+low_kept p c call why n = grind arith
 
 same_chip : (c c' : Chip) → c'.control ≡ c.control → c'.memory ≡ c.memory → c' ≡ c
 same_chip c c' p q = λ i. record { control = p i; memory = q i }
@@ -91,30 +73,23 @@ pub low_refusals_change_nothing : LowRefusalsChangeNothing
 low_refusals_change_nothing K o c c' e why t a n =
     same_chip c c' (moved_by K o c c' e why t a ∙ low_kept o.part c.control e.call why n) (rests_at K o c c' e why t a (omega arith))
 
-started_not : (p : Part) (c c' : Chip) (call : Call) (why : Refusal) → 10 ≤ number why → number why ≤ 12
-    → c'.control ≡ refused_after p c.control call why → c'.memory ≡ c.memory → NotStarted c c'
-started_not p c c' call Refusal.Dead low high m q = absurd (omega arith)
-started_not p c c' call Refusal.Unlawful low high m q = absurd (omega arith)
-started_not p c c' call Refusal.Busy low high m q = absurd (omega arith)
-started_not p c c' call Refusal.Unknown low high m q = absurd (omega arith)
-started_not p c c' call Refusal.NotBusy low high m q = absurd (omega arith)
-started_not p c c' call Refusal.Outside low high m q = absurd (omega arith)
-started_not p c c' call Refusal.NoColumn low high m q = absurd (omega arith)
-started_not p c c' call Refusal.NoWord low high m q = absurd (omega arith)
-started_not p c c' call Refusal.Locked low high m q = absurd (omega arith)
-started_not p c c' call Refusal.Protected low high m q =
-    record { status = cc; fail = cc; register = cc; pointer = cc; wp = cc; tight = cc; range = cc; memory = q }
-started_not p c c' call Refusal.PageFull low high m q =
-    record { status = cc; fail = cc; register = cc; pointer = cc; wp = cc; tight = cc; range = cc; memory = q }
-started_not p c c' call Refusal.OtherPlane low high m q =
-    record { status = cc; fail = cc; register = cc; pointer = cc; wp = cc; tight = cc; range = cc; memory = q }
-started_not p c c' call Refusal.ArrayFailed low high m q = absurd (omega arith)
-started_not p c c' call Refusal.BadRecord low high m q = absurd (omega arith)
-started_not p c c' call Refusal.ListFull low high m q = absurd (omega arith)
+-- 10 to 12 refuse a start
+start_kept : (p : Part) (c : Control) (call : Call) (why : Refusal) → 10 ≤ number why → number why ≤ 12 → refused_after p c call why ≡ start_refused c
+start_kept p c call why low high = grind arith
 
 pub refused_starts : RefusedStarts
 refused_starts K o c c' e why t a low high =
-    started_not o.part c c' e.call why low high (moved_by K o c c' e why t a) (rests_at K o c c' e why t a high)
+    let m = moved_by K o c c' e why t a ∙ start_kept o.part c.control e.call why low high in
+    record {
+      status = ap (λ x. x.state) m;
+      fail = ap (λ x. x.fail) m;
+      register = ap (λ x. x.register) m;
+      pointer = ap (λ x. x.pointer) m;
+      wp = ap (λ x. x.wp) m;
+      tight = ap (λ x. x.tight) m;
+      range = ap (λ x. x.range) m;
+      memory = rests_at K o c c' e why t a high;
+    }
 
 pub dead_chips_answer_1 : DeadChipsAnswer1
 unfolding answer
@@ -125,22 +100,7 @@ dead_chips_answer_1 K o c c' e t d =
 
 -- 13 is what an answer says of a failure
 failed_is_13 : (a : Answer) → says_failed a ≡ true → a ≡ Err Refusal.ArrayFailed
-failed_is_13 (Ok v) e = cc
-failed_is_13 (Err Refusal.Dead) e = cc
-failed_is_13 (Err Refusal.Unlawful) e = cc
-failed_is_13 (Err Refusal.Busy) e = cc
-failed_is_13 (Err Refusal.Unknown) e = cc
-failed_is_13 (Err Refusal.NotBusy) e = cc
-failed_is_13 (Err Refusal.Outside) e = cc
-failed_is_13 (Err Refusal.NoColumn) e = cc
-failed_is_13 (Err Refusal.NoWord) e = cc
-failed_is_13 (Err Refusal.Locked) e = cc
-failed_is_13 (Err Refusal.Protected) e = cc
-failed_is_13 (Err Refusal.PageFull) e = cc
-failed_is_13 (Err Refusal.OtherPlane) e = cc
-failed_is_13 (Err Refusal.ArrayFailed) e = refl
-failed_is_13 (Err Refusal.BadRecord) e = cc
-failed_is_13 (Err Refusal.ListFull) e = cc
+failed_is_13 a e = grind arith
 
 failed_at : {K : Kind} {o : Opening} {c c' : Chip} {e : Event} → Step K o c e c' → e.answer ≡ Err Refusal.ArrayFailed → e.failed ≡ true
 failed_at t a = sym (told t) ∙ ap says_failed a
@@ -152,10 +112,6 @@ failures_are_told K o c c' e t = (
 )
 
 -- a call that ends nothing leaves the array
-no_ends : (u : Option Work) → Ends u none → ⊥
-no_ends None e = e
-no_ends (Some w) e = e
-
 rests_unless : (K : Kind) (o : Opening) (c c' : Chip) (e : Event) → Step K o c e c' → ending o.part e.call ≡ none → c'.memory ≡ c.memory
 rests_unless K o c c' e t n = elim (ends_or_rests K o c c' e t) [
   | inl x ↦ absurd (no_ends (under c.control.state) (subst (λ y. Ends (under c.control.state) y) n x.ends))
@@ -199,81 +155,21 @@ look_changes_nothing K o c c' e row column t call =
 
 -- FFh is the one command that ends what is under way
 module _ (p : Part) (byte : ℕ) where
-  abbrev IsReset : Option Command → Type 0
-  IsReset x = cycle_ending (if_known p x) ≡ torn → byte ≡ 0xFF
-
-  not_reset : (known : Bool) (x : Command) → command_ending x ≡ none → cycle_ending (cond known (Some x) None) ≡ torn → byte ≡ 0xFF
-  not_reset true x e t = cc
-  not_reset false x e t = cc
-
-  skip : (test : Bool) (x : Command) (rest : Option Command) → command_ending x ≡ none → IsReset rest → IsReset (cond test (Some x) rest)
-  skip true x rest e r = not_reset (knows p x) x e
-  skip false x rest e r = r
-
-  at_reset : (test : Bool) (rest : Option Command) → eqb byte 0xFF ≡ test → IsReset rest → IsReset (cond test (Some Command.Reset) rest)
-  at_reset true rest e r = λ _. eqb-true byte 0xFF e
-  at_reset false rest e r = r
-
-  no_command : IsReset None
-  no_command t = cc
-
   pub torn_by_reset : cycle_ending (decoded p byte) ≡ torn → byte ≡ 0xFF
-  torn_by_reset =
-      skip (eqb byte 0x00) Command.ReadA _ refl
-      (skip (eqb byte 0x01) Command.ReadB _ refl
-      (skip (eqb byte 0x50) Command.ReadC _ refl
-      (skip (eqb byte 0x80) Command.Load _ refl
-      (skip (eqb byte 0x10) Command.Program _ refl
-      (skip (eqb byte 0x60) Command.EraseSetup _ refl
-      (skip (eqb byte 0xD0) Command.EraseConfirm _ refl
-      (skip (eqb byte 0x8A) Command.CopyBack _ refl
-      (skip (eqb byte 0x70) Command.Status _ refl
-      (skip (eqb byte 0x90) Command.Id _ refl
-      (at_reset (eqb byte 0xFF) _ refl
-      (skip (eqb byte 0x2A) Command.Lock _ refl
-      (skip (eqb byte 0x2C) Command.LockTight _ refl
-      (skip (eqb byte 0x23) Command.UnlockFirst _ refl
-      (skip (eqb byte 0x24) Command.UnlockLast _ refl
-      (skip (eqb byte 0x7A) Command.LockStatus _ refl no_command)))))))))))))))
+  torn_by_reset e = grind arith
 
 -- a command that ends what is under way cuts it off
 cycle_torn : (u : Option Work) (x : Command) → Ends u (command_ending x) → command_ending x ≡ torn
-cycle_torn u x =
-    elim x as (λ x. Ends u (command_ending x) → command_ending x ≡ torn) [
-      | Command.ReadA ↦ λ z. absurd (no_ends u z)
-      | Command.ReadB ↦ λ z. absurd (no_ends u z)
-      | Command.ReadC ↦ λ z. absurd (no_ends u z)
-      | Command.Load ↦ λ z. absurd (no_ends u z)
-      | Command.Program ↦ λ z. absurd (no_ends u z)
-      | Command.EraseSetup ↦ λ z. absurd (no_ends u z)
-      | Command.EraseConfirm ↦ λ z. absurd (no_ends u z)
-      | Command.CopyBack ↦ λ z. absurd (no_ends u z)
-      | Command.Status ↦ λ z. absurd (no_ends u z)
-      | Command.Id ↦ λ z. absurd (no_ends u z)
-      | Command.Reset ↦ λ z. refl
-      | Command.Lock ↦ λ z. absurd (no_ends u z)
-      | Command.LockTight ↦ λ z. absurd (no_ends u z)
-      | Command.UnlockFirst ↦ λ z. absurd (no_ends u z)
-      | Command.UnlockLast ↦ λ z. absurd (no_ends u z)
-      | Command.LockStatus ↦ λ z. absurd (no_ends u z)
-    ]
+cycle_torn u x z = grind arith
 
 ends_torn : (u : Option Work) (x : Option Command) → Ends u (cycle_ending x) → cycle_ending x ≡ torn
-ends_torn u None z = absurd (no_ends u z)
-ends_torn u (Some x) z = cycle_torn u x z
+ends_torn u x z = grind (arith, cycle_torn)
 
 ends_call : (p : Part) (u : Option Work) (call : Call) → Ends u (ending p call) → (call ≡ Call.Settle) ⊎ (call ≡ Call.Command 0xFF)
-ends_call p u (Call.Command b) z = inr (ap Call.Command (torn_by_reset p b (ends_torn u (decoded p b) z)))
-ends_call p u (Call.Address b) z = absurd (no_ends u z)
-ends_call p u (Call.Write w) z = absurd (no_ends u z)
-ends_call p u Call.Read z = absurd (no_ends u z)
-ends_call p u (Call.Protect l) z = absurd (no_ends u z)
-ends_call p u Call.Settle z = inl refl
-ends_call p u (Call.Look row column) z = absurd (no_ends u z)
+ends_call p u call z = grind (arith, torn_by_reset, ends_torn)
 
 ends_busy : (u : Option Work) (n : Ending) → Ends u n → is_some u ≡ true
-ends_busy None n z = absurd z
-ends_busy (Some w) n z = refl
+ends_busy u n z = grind arith
 
 pub only_landings_change_cells : OnlyLandingsChangeCells
 only_landings_change_cells K o c c' e t = elim (ends_or_rests K o c c' e t) [

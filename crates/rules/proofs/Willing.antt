@@ -6,7 +6,6 @@ use Rattle.words.specs.Kind.{Kind, KindLaws, all_lawful}
 use Rattle.arrays.specs.Meaning.{Meaning, Operation, nothing, programs, fills, accepts}
 use Rattle.records.specs.declared.call.Call.{Call}
 use Rattle.rules.specs.declared.part.Part.{Part}
-use Rattle.rules.specs.declared.part.Part.TheVariants.{K9K1208, K9K1216, K9F2808}
 use Rattle.rules.specs.declared.state.Work.{Work}
 use Rattle.rules.specs.declared.control.Opening.{Opening}
 use Rattle.rules.specs.declared.control.Control.{Control}
@@ -29,6 +28,9 @@ page_lawful K (x ∷ xs) h = and_from (K.lawful x) (all_lawful K xs) (h 0) (page
 front_long : (p : Part) (codes : List ℕ) → length codes ≡ 528 → length (take (columns p) codes) ≡ columns p
 front_long p codes e = length-take (columns p) codes ∙ (let h = few_columns p in omega arith)
 
+and_true : (x y : Bool) → y ≡ true → (x && y) ≡ x
+and_true x y e = grind arith
+
 module _ (K : Kind) (L : KindLaws K) (p : Part) (m : Meaning) (same : m.holds.shape.columns ≡ columns p) where
   -- a page of lawful codes, one a column, is programmed where the row is willing
   page_accepted : (row : ℕ) (closes : Bool) (page : List ℕ) → length page ≡ columns p → LawfulPage K page
@@ -37,17 +39,9 @@ module _ (K : Kind) (L : KindLaws K) (p : Part) (m : Meaning) (same : m.holds.sh
       let a : eqb (length page) m.holds.shape.columns ≡ true = eq-eqb (length page) m.holds.shape.columns (long ∙ sym same) in
       let b : all_lawful K page ≡ true = page_lawful K page lawful in
       and_true (m.willing_row row) _ (and_from _ _ a b)
-    where
-      and_true : (x y : Bool) → y ≡ true → (x && y) ≡ x
-      and_true true y e = e
-      and_true false y e = refl
 
   fill_accepted : (block code : ℕ) → IsLawful K code → accepts K m (fills block code) ≡ m.willing_block block
   fill_accepted block code e = and_true (m.willing_block block) _ e
-    where
-      and_true : (x y : Bool) → y ≡ true → (x && y) ≡ x
-      and_true true y e = e
-      and_true false y e = refl
 
   work_accepted : (codes : List ℕ) (u : Option Work) (n : Ending) → length codes ≡ 528 → LawfulPage K codes
       → accepts K m (operation_of K p codes u n) ≡ willing m (operation_of K p codes u n)
@@ -84,14 +78,10 @@ only_the_unwilling_fail K L o m es e c c' n r t =
 
 three_cycles : (p : Part) (low middle high : ℕ)
     → next_row p (next_row p (next_row p 0 0 low) 1 middle) 2 high ≡ (low + 256 * middle + 65536 * high) % most_rows p
-three_cycles K9K1208 low middle high = omega arith
-three_cycles K9K1216 low middle high = omega arith
-three_cycles K9F2808 low middle high = omega arith
+three_cycles p low middle high = grind arith
 
 two_cycles : (p : Part) (low high : ℕ) → next_row p (next_row p 0 0 low) 1 high ≡ (low + 256 * high) % most_rows p
-two_cycles K9K1208 low high = omega arith
-two_cycles K9K1216 low high = omega arith
-two_cycles K9F2808 low high = omega arith
+two_cycles p low high = grind arith
 
 pub rows_count_low_first : RowsCountLowFirst
 rows_count_low_first = record { three = three_cycles; two = two_cycles }

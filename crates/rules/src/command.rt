@@ -1,8 +1,9 @@
 // The commands, and the bytes that name them.
 ghost use Rattle.std.specs.Prelude.{◌≡◌, ℕ};
-ghost use Rattle.rules.specs.Commands.{command_of, knows, decoded};
+ghost use Rattle.rules.specs.Commands.{knows, decoded};
 
 use crate::part::Part;
+use refusals::Refusal;
 
 #[derive(Clone, Copy)]
 pub enum Command {
@@ -40,28 +41,35 @@ pub enum Command {
     LockStatus,
 }
 
-impl Command {
-    pub fn of(byte: u8) -> Option<Command>
-        ensures { result ≡ command_of byte }
-    {
+// The command that a byte names; a byte that names none is refused.
+impl TryFrom<u8> for Command {
+    type Error = Refusal;
+
+    ghost use Rattle.refusals.specs.declared.Refusal.TheVariants.{Unknown};
+    ghost use Rattle.std.specs.Prelude.{ok_or};
+    ghost use Rattle.rules.specs.Commands.{command_of};
+
+    ghost try_from_gives = { λ byte r. r ≡ ok_or (command_of byte) Unknown };
+
+    fn try_from(byte: u8) -> Result<Command, Refusal> {
         match byte {
-            0x00 => Some(Command::ReadA),
-            0x01 => Some(Command::ReadB),
-            0x50 => Some(Command::ReadC),
-            0x80 => Some(Command::Load),
-            0x10 => Some(Command::Program),
-            0x60 => Some(Command::EraseSetup),
-            0xD0 => Some(Command::EraseConfirm),
-            0x8A => Some(Command::CopyBack),
-            0x70 => Some(Command::Status),
-            0x90 => Some(Command::Id),
-            0xFF => Some(Command::Reset),
-            0x2A => Some(Command::Lock),
-            0x2C => Some(Command::LockTight),
-            0x23 => Some(Command::UnlockFirst),
-            0x24 => Some(Command::UnlockLast),
-            0x7A => Some(Command::LockStatus),
-            _ => None,
+            0x00 => Ok(Command::ReadA),
+            0x01 => Ok(Command::ReadB),
+            0x50 => Ok(Command::ReadC),
+            0x80 => Ok(Command::Load),
+            0x10 => Ok(Command::Program),
+            0x60 => Ok(Command::EraseSetup),
+            0xD0 => Ok(Command::EraseConfirm),
+            0x8A => Ok(Command::CopyBack),
+            0x70 => Ok(Command::Status),
+            0x90 => Ok(Command::Id),
+            0xFF => Ok(Command::Reset),
+            0x2A => Ok(Command::Lock),
+            0x2C => Ok(Command::LockTight),
+            0x23 => Ok(Command::UnlockFirst),
+            0x24 => Ok(Command::UnlockLast),
+            0x7A => Ok(Command::LockStatus),
+            _ => Err(Refusal::Unknown),
         }
     }
 }
@@ -72,22 +80,22 @@ impl Part {
         ensures { result ≡ knows self command }
     {
         match command {
-            Command::ReadA => true,
             Command::ReadB => self.has_b(),
-            Command::ReadC => true,
-            Command::Load => true,
-            Command::Program => true,
-            Command::EraseSetup => true,
-            Command::EraseConfirm => true,
-            Command::CopyBack => self.locks(),
-            Command::Status => true,
-            Command::Id => true,
-            Command::Reset => true,
-            Command::Lock => self.locks(),
-            Command::LockTight => self.locks(),
-            Command::UnlockFirst => self.locks(),
-            Command::UnlockLast => self.locks(),
-            Command::LockStatus => self.locks(),
+            Command::Lock
+            | Command::LockTight
+            | Command::UnlockFirst
+            | Command::UnlockLast
+            | Command::LockStatus
+            | Command::CopyBack => self.locks(),
+            Command::ReadA
+            | Command::ReadC
+            | Command::Load
+            | Command::Program
+            | Command::EraseSetup
+            | Command::EraseConfirm
+            | Command::Status
+            | Command::Id
+            | Command::Reset => true,
         }
     }
 
@@ -95,15 +103,8 @@ impl Part {
     pub fn decode(self, byte: u8) -> Option<Command>
         ensures { result ≡ decoded self byte }
     {
-        match Command::of(byte) {
-            Some(command) => {
-                if self.knows(command) {
-                    Some(command)
-                } else {
-                    None
-                }
-            }
-            None => None,
-        }
+        Command::try_from(byte)
+            .ok()
+            .filter(|command| self.knows(*command))
     }
 }

@@ -43,16 +43,10 @@ impl Opening {
     pub fn fits(self, columns: usize, blocks: usize, cells: usize) -> bool
         ensures { result ≡ fits self columns blocks cells }
     {
-        if columns != self.part.columns() as usize {
-            return false;
-        }
-        if cells != self.part.cells() as usize {
-            return false;
-        }
-        if blocks == 0 || blocks > self.part.most_blocks() as usize {
-            return false;
-        }
-        self.limit > 0 && self.limit < 16
+        columns == self.part.columns() as usize
+            && cells == self.part.cells() as usize
+            && (1..=self.part.most_blocks() as usize).contains(&blocks)
+            && (1..16).contains(&self.limit)
     }
 }
 
@@ -60,7 +54,7 @@ impl OpenRange {
     pub fn holds(self, block: u32) -> bool
         ensures { result ≡ in_range self block }
     {
-        self.first <= block && block <= self.last
+        (self.first..=self.last).contains(&block)
     }
 }
 
@@ -84,23 +78,15 @@ impl Control {
     pub fn status(&self) -> u16
         ensures { result ≡ status_of self.now }
     {
-        let fail = if self.fail { 1 } else { 0 };
-        let ready = if self.state.is_busy() { 0 } else { 64 };
-        let high = if self.wp { 128 } else { 0 };
-        fail + ready + high
+        let ready = !self.state.is_busy();
+        u16::from(self.fail) + 64 * u16::from(ready) + 128 * u16::from(self.wp)
     }
 
     // Whether the lock lets a block be programmed and erased.
     pub fn is_open(&self, part: Part, block: u32) -> bool
         ensures { result ≡ is_open part self.now block }
     {
-        if !part.locks() {
-            return true;
-        }
-        match self.range {
-            Some(range) => range.holds(block),
-            None => false,
-        }
+        !part.locks() || self.range.is_some_and(|range| range.holds(block))
     }
 
     // Whether the write protect pin or the lock keeps a row's block as it is.

@@ -44,9 +44,8 @@ impl Part {
         ensures bound { result ≤ 528 }
     {
         match self {
-            Part::K9K1208 => 528,
+            Part::K9K1208 | Part::K9F2808 => 528,
             Part::K9K1216 => 264,
-            Part::K9F2808 => 528,
         }
     }
 
@@ -55,9 +54,8 @@ impl Part {
         ensures { result ≡ cells self }
     {
         match self {
-            Part::K9K1208 => 8,
+            Part::K9K1208 | Part::K9F2808 => 8,
             Part::K9K1216 => 16,
-            Part::K9F2808 => 8,
         }
     }
 
@@ -67,8 +65,7 @@ impl Part {
         ensures bound { result ≤ 3 }
     {
         match self {
-            Part::K9K1208 => 3,
-            Part::K9K1216 => 3,
+            Part::K9K1208 | Part::K9K1216 => 3,
             Part::K9F2808 => 2,
         }
     }
@@ -78,8 +75,7 @@ impl Part {
         ensures bound { result ≤ 4096 }
     {
         match self {
-            Part::K9K1208 => 4096,
-            Part::K9K1216 => 4096,
+            Part::K9K1208 | Part::K9K1216 => 4096,
             Part::K9F2808 => 1024,
         }
     }
@@ -90,33 +86,21 @@ impl Part {
         ensures some { 0 < result }
         ensures bound { result ≤ 131072 }
     {
-        match self {
-            Part::K9K1208 => 131072,
-            Part::K9K1216 => 131072,
-            Part::K9F2808 => 32768,
-        }
+        32 * self.most_blocks()
     }
 
     // Whether the part has the block lock and the copy-back.
     pub fn locks(self) -> bool
         ensures { result ≡ locks self }
     {
-        match self {
-            Part::K9K1208 => true,
-            Part::K9K1216 => true,
-            Part::K9F2808 => false,
-        }
+        matches!(self, Part::K9K1208 | Part::K9K1216)
     }
 
     // Whether the part has an area B.
     pub fn has_b(self) -> bool
         ensures { result ≡ has_b self }
     {
-        match self {
-            Part::K9K1208 => true,
-            Part::K9K1216 => false,
-            Part::K9F2808 => true,
-        }
+        matches!(self, Part::K9K1208 | Part::K9F2808)
     }
 
     // The column that a column cycle names, by the area that the pointer is on.
@@ -126,9 +110,8 @@ impl Part {
         match (pointer, self) {
             (Pointer::A, _) => byte as u16,
             (Pointer::B, _) => 256 + byte as u16,
-            (Pointer::C, Part::K9K1208) => 512 + (byte % 16) as u16,
+            (Pointer::C, Part::K9K1208 | Part::K9F2808) => 512 + (byte % 16) as u16,
             (Pointer::C, Part::K9K1216) => 256 + (byte % 8) as u16,
-            (Pointer::C, Part::K9F2808) => 512 + (byte % 16) as u16,
         }
     }
 
@@ -200,8 +183,7 @@ impl Pointer {
         ensures { result ≡ fallen_back self }
     {
         match self {
-            Pointer::A => Pointer::A,
-            Pointer::B => Pointer::A,
+            Pointer::A | Pointer::B => Pointer::A,
             Pointer::C => Pointer::C,
         }
     }

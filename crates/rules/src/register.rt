@@ -1,5 +1,6 @@
 // The page register.
-ghost use Rattle.std.specs.Prelude.{◌≡◌, ℕ, ◌<◌, ◌≤◌, length, take, slice_index_or, slice_set};
+ghost use Rattle.std.specs.Prelude.{◌≡◌, ℕ, ◌<◌, ◌≤◌, length, map, take, slice_index_or, slice_set};
+ghost use Rattle.words.specs.Kind.{Kind};
 ghost use Rattle.rules.specs.Parts.{columns};
 ghost use Rattle.rules.specs.Controls.{places, blank, page_of};
 
@@ -7,58 +8,52 @@ use crate::part::Part;
 use arrays::CellArray;
 use words::Word;
 
+// The places of the register: the columns of the widest part.
+const PLACES: usize = 528;
+
 // A code at each of its places; a part uses as many as it has columns.
 #[derive(Drop)]
 pub struct PageRegister {
-    codes: [u16; 528],
-}
-
-// One code at every place of a register.
-fn one_code(code: u16) -> [u16; 528]
-    ensures { result ≡ blank code }
-{
-    [code; 528]
-}
-
-// The code at a place, or `erased` past the last one.
-fn code_at(codes: &[u16; 528], column: u16, erased: u16) -> u16
-    ensures { result ≡ slice_index_or codes.now column erased }
-{
-    if column >= 528 {
-        return erased;
-    }
-    codes[column as usize]
+    codes: [u16; PLACES],
 }
 
 // Puts a page of an array over the codes, one pass from the first place to the last.
-fn fetch_codes<A: CellArray>(codes: &mut [u16; 528], array: &A, part: Part, row: u32)
+fn fetch_codes<A: CellArray>(codes: &mut [u16; PLACES], array: &A, part: Part, row: u32)
     ensures { codes.new ≡ page_of part A.Stored.Word.kind.erased ((A.meaning array.now).holds.code row) }
 {
     let columns = part.columns() as usize;
     let erased = A::Stored::erased().to_code();
-    for column in 0..528 {
-        if column < columns {
-            codes[column] = array.code(row as usize, column);
+    for (column, code) in codes.iter_mut().enumerate() {
+        *code = if column < columns {
+            array.code(row as usize, column)
         } else {
-            codes[column] = erased;
-        }
+            erased
+        };
     }
+}
+
+// The torn form of each code.
+fn torn_codes<W: Word>(codes: [u16; PLACES]) -> [u16; PLACES]
+    ensures { result ≡ map W.kind.torn codes }
+{
+    codes.map(|code| W::torn_code(code))
 }
 
 impl PageRegister {
     // One code at every place.
+    #[tactic(auto, unfolding(crate::specs::Controls::blank))]
     pub fn erased(code: u16) -> PageRegister
         ensures { result.codes ≡ blank code }
     {
         PageRegister {
-            codes: one_code(code),
+            codes: [code; PLACES],
         }
     }
 
     pub fn clear(&mut self, code: u16)
         ensures { self.new.codes ≡ blank code }
     {
-        self.codes = one_code(code);
+        *self = PageRegister::erased(code);
     }
 
     // How many places there are.
@@ -66,23 +61,24 @@ impl PageRegister {
         ensures value { result ≡ places }
         ensures length { length self.now.codes ≡ result }
     {
-        let all: &[u16] = &self.codes;
-        all.len() as u16
+        self.codes.len() as u16
     }
 
     // The code at a column, or `erased` past the last place.
     pub fn get(&self, column: u16, erased: u16) -> u16
         ensures { result ≡ slice_index_or self.now.codes column erased }
     {
-        code_at(&self.codes, column, erased)
+        self.codes.get(column as usize).copied().unwrap_or(erased)
     }
 
     // Puts a code at a column; past the last place nothing changes.
     pub fn put(&mut self, column: u16, code: u16)
         ensures { self.new.codes ≡ slice_set self.old.codes column code }
     {
-        if column < 528 {
-            self.codes[column as usize] = code;
+        // by index: after a slice's `get_mut` a proof knows the length and no element
+        let column = column as usize;
+        if column < PLACES {
+            self.codes[column] = code;
         }
     }
 
@@ -91,8 +87,16 @@ impl PageRegister {
         ensures value { result.now ≡ take (columns part) self.now.codes }
         ensures length { length result.now ≡ columns part }
     {
-        let columns = part.columns();
-        &self.codes[0..columns as usize]
+        &self.codes[..part.columns() as usize]
+    }
+
+    // The register with the torn form of each code.
+    pub fn torn<W: Word>(&self) -> PageRegister
+        ensures { result.codes ≡ map W.kind.torn self.now.codes }
+    {
+        PageRegister {
+            codes: torn_codes::<W>(self.codes),
+        }
     }
 
     // A page of an array: the row's codes at the part's columns, and the erased code at the places beyond.

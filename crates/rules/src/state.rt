@@ -65,9 +65,6 @@ impl State {
     pub fn is_busy(self) -> bool
         ensures { result ≡ is_busy self }
     {
-        match self {
-            State::Busy(_) => true,
-            _ => false,
-        }
+        matches!(self, State::Busy(_))
     }
 }
