@@ -35,8 +35,10 @@ pub fn equal(rt: &HostRuntime, settings: Settings) -> io::Result<()> {
 pub fn different<A: CellArray, B: CellArray>(
     rt: &HostRuntime,
     settings: Settings,
-    pair: Pair<A, B>,
+    one: &A,
+    other: &B,
 ) -> io::Result<()> {
+    let pair = Pair { one, other };
     let columns = settings.part.columns();
     println!(rt; "  the chips are not equal in all cells")?;
     if let Some(place) = pair.first_difference(settings.blocks, columns as usize) {

@@ -4,7 +4,6 @@ use crate::settings::Settings;
 use anyhow::anyhow;
 use arrays::CellArray;
 use compare::builds::{Build, compare_builds};
-use compare::cells::Pair;
 use compare::error::{CompareError, Side};
 use rules::control::Opening;
 use std::fs;
@@ -33,10 +32,12 @@ impl<'a> TraceFile<'a> {
 fn message(error: CompareError, one: &TraceFile, other: &TraceFile) -> anyhow::Error {
     let file = match error {
         CompareError::NotRead {
-            side: Side::One, ..
+            side: Side::One,
+            ..
         } => one.name,
         CompareError::NotRead {
-            side: Side::Other, ..
+            side: Side::Other,
+            ..
         } => other.name,
         CompareError::NoMemory | CompareError::TooLarge => return anyhow!("{error}"),
     };
@@ -71,17 +72,14 @@ pub fn compare_sides<W: Word + Clone>(
         counts: &mut other_counts,
         trace: &other.bytes,
     };
-    let builds = compare_builds(heap, opening, build, other_build)
-        .map_err(|error| message(error, one, other))?;
+    let builds = compare_builds(heap, opening, build, other_build).map_err(|error| message(
+        error, one, other,
+    ))?;
     report::answers(rt, one, other, &builds.comparison)?;
     if builds.comparison.cells_equal {
         report::equal(rt, settings)?;
     } else {
-        let pair = Pair {
-            one: builds.one.array(),
-            other: builds.other.array(),
-        };
-        report::different(rt, settings, pair)?;
+        report::different(rt, settings, builds.one.array(), builds.other.array())?;
     }
     Ok(())
 }
