@@ -26,7 +26,7 @@ fn main(rt: HostRuntime) -> io::Result<()> {
     rt.stdin().read_to_end(&mut trace)?;
     print_records(&rt, &trace)?;
     match judge(rt.alloc(), &trace) {
-        Ok(verdict) => rt.println(verdict),
-        Err(_) => rt.println("no memory"),
+        Ok(accepted) => rt.println(accepted),
+        Err(refused) => rt.println(refused),
     }
 }
