@@ -7,6 +7,7 @@ ghost use Rattle.records.specs.Records.{first, Begins};
 
 use crate::call::Call;
 use crate::error::TraceError;
+use crate::iter::Records;
 use std::alloc::Global;
 
 // Matches a mark, its payload and the rest of the trace.
@@ -51,14 +52,11 @@ pub fn read_trace(heap: Global, trace: &[u8]) -> Result<Vec<Call>, TraceError>
     ensures one { (calls others : List Call) → Reading trace.now calls → Reading trace.now others → calls ≡ others }
 {
     let mut calls = Vec::new(heap);
-    let mut rest = trace;
-    while !rest.is_empty() {
-        let whole = trace.len() - rest.len();
-        let (call, next) = first_record(rest).ok_or(TraceError::BadRecord { whole })?;
+    for record in Records::new(trace) {
+        let (whole, call) = record?;
         calls
             .push(call)
             .map_err(|_| TraceError::NoMemory { whole })?;
-        rest = next;
     }
     Ok(calls)
 }
