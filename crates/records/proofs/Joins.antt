@@ -1,10 +1,20 @@
 -- Joined records are read as their calls. Assumes nothing.
 use Rattle.std.proofs.Common.{◌≡◌, ℕ, zero, suc, ◌+◌, ◌-◌, ◌<◌, ◌≤◌, List, [], ◌∷◌, ◌++◌, length, None, Ok, Err, sym, refl, ap, ◌∙◌, append_assoc, append-nil, arith, length-append}
 use Rattle.records.specs.declared.call.Call.{Call}
+use Rattle.records.specs.declared.call.Call.TheVariants.{Command, Address, Write, Read, Protect, Settle, Look}
 use Rattle.records.specs.Records.{First, record_of, first}
 use Rattle.records.specs.Readings.{joined, Reading, Outcome, after, at_end, go_on, read_most, reading}
-use Rattle.records.proofs.Begun.{two_or_more}
 use Rattle.records.proofs.Firsts.{first_joined}
+
+-- the mark alone has two bytes
+two_or_more : (call : Call) → 2 ≤ length (record_of call)
+two_or_more (Command b) = omega arith
+two_or_more (Address b) = omega arith
+two_or_more (Write b) = omega arith
+two_or_more Read = omega arith
+two_or_more (Protect b) = omega arith
+two_or_more Settle = omega arith
+two_or_more (Look r c) = omega arith
 
 -- calls in front of an outcome
 abbrev afters : List Call → Outcome → Outcome

@@ -1,5 +1,5 @@
+pub mod Hex
 pub mod Firsts
-pub mod Begun
 pub mod Joins
 pub mod Progress
 pub mod Turns

@@ -1,5 +1,5 @@
 -- What one turn of the reader keeps, and what its ends come to. Assumes nothing.
-use Rattle.std.proofs.Common.{◌≡◌, ℕ, ◌-◌, ◌<◌, ◌≤◌, true, false, eqb, List, [], ◌∷◌, ◌++◌, length, take, drop, is_some, Some, None, Ok, Err, sym, refl, ap, ◌∙◌, append_assoc, append-nil, arith, length-append, true-eqb, false-eqb}
+use Rattle.std.proofs.Common.{◌≡◌, ℕ, ◌-◌, ◌<◌, ◌≤◌, true, List, [], ◌∷◌, ◌++◌, length, take, drop, is_some, Some, None, Ok, Err, sym, refl, ap, ◌∙◌, append_assoc, append-nil, arith, length-append}
 use Rattle.std.proofs.lemmas.List.{take_at, drop_at, nil_from_length}
 use Rattle.std.proofs.lemmas.Bool.{and_parts, and_from}
 use Rattle.records.specs.declared.call.Call.{Call}
@@ -75,25 +75,23 @@ module _ (t rest : List ℕ) (cs : List Call) (so : Sofar t rest cs) where
 -- what the reader needs where it stops, for each way to stop
 pub record Turn (trace rest : List ℕ) (calls : List Call) : Type 0 where
   pub sofar : Sofar trace rest calls
-  pub shorter : length rest ≤ length trace
-  pub value : true ≡ eqb (length rest) 0 → ◌≡◌ {A = Outcome} (reading trace) (Ok calls)
-  pub whole : true ≡ eqb (length rest) 0 → Reading trace calls
+  pub value : rest ≡ [] → ◌≡◌ {A = Outcome} (reading trace) (Ok calls)
+  pub whole : rest ≡ [] → Reading trace calls
   pub narrow : all_writable calls ≡ true
-  pub breaks : false ≡ eqb (length rest) 0 → ◌≡◌ {A = First} None (first rest) → Breaks trace (length trace - length rest)
-  pub starves : (p : Call × List ℕ) → ◌≡◌ {A = First} (Some p) (first rest) → Starves trace (length trace - length rest)
+  pub breaks : 0 < length rest → ◌≡◌ {A = First} (first rest) None → Breaks trace (length trace - length rest)
+  pub starves : (p : Call × List ℕ) → ◌≡◌ {A = First} (first rest) (Some p) → Starves trace (length trace - length rest)
   pub one : (cs ds : List Call) → Reading trace cs → Reading trace ds → cs ≡ ds
 
 turn : (trace rest : List ℕ) (calls : List Call) → Sofar trace rest calls → Turn trace rest calls
 turn trace rest calls so =
-    let whole : true ≡ eqb (length rest) 0 → Reading trace calls = λ e. accepted trace rest calls so (true-eqb (length rest) 0 e) in
+    let whole : rest ≡ [] → Reading trace calls = λ e. accepted trace rest calls so (ap length e) in
     record {
       sofar = so;
-      shorter = no_longer trace rest calls so;
       value = λ e. read_whole trace calls (whole e);
       whole = whole;
       narrow = so.narrow;
-      breaks = λ e none. broken trace rest calls so (let some = false-eqb (length rest) 0 e in omega (arith, some)) (sym none);
-      starves = λ p found. starved trace rest calls so p (sym found);
+      breaks = broken trace rest calls so;
+      starves = starved trace rest calls so;
       one = one_reading trace;
     }
 

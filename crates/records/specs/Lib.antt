@@ -5,3 +5,4 @@ pub mod Refused
 pub mod Writings
 pub mod Texts
 pub mod Flaws
+pub mod Sequence

@@ -27,16 +27,16 @@ impl fmt::Display for Flaw {
 fn is_known(first: u8, second: u8) -> bool
     ensures { result ≡ is_mark first second }
 {
-    match (first, second) {
+    matches!(
+        (first, second),
         (b'C', b'M')
-        | (b'A', b'D')
-        | (b'D', b'I')
-        | (b'D', b'O')
-        | (b'W', b'P')
-        | (b'S', b'T')
-        | (b'L', b'K') => true,
-        _ => false,
-    }
+            | (b'A', b'D')
+            | (b'D', b'I')
+            | (b'D', b'O')
+            | (b'W', b'P')
+            | (b'S', b'T')
+            | (b'L', b'K')
+    )
 }
 
 // Why no record begins these bytes: asked where a trace is bad.

@@ -4,6 +4,7 @@
 pub mod call;
 pub mod error;
 pub mod flaws;
+pub mod iter;
 pub mod reader;
 #[cfg(test)]
 mod tests;

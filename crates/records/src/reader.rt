@@ -7,6 +7,7 @@ ghost use Rattle.records.specs.Records.{first, Begins};
 
 use crate::call::Call;
 use crate::error::TraceError;
+use crate::iter::Records;
 use std::alloc::Global;
 
 // Matches a mark, its payload and the rest of the trace.
@@ -17,14 +18,14 @@ fn match_record(trace: &[u8]) -> Option<(Call, &[u8])>
         [b'C', b'M', byte, rest @ ..] => Some((Call::Command(*byte), rest)),
         [b'A', b'D', byte, rest @ ..] => Some((Call::Address(*byte), rest)),
         [b'D', b'I', low, high, rest @ ..] => {
-            Some((Call::Write(*low as u16 + 256 * *high as u16), rest))
+            Some((Call::Write(u16::from_le_bytes([*low, *high])), rest))
         }
         [b'D', b'O', rest @ ..] => Some((Call::Read, rest)),
         [b'W', b'P', level, rest @ ..] => Some((Call::Protect(*level), rest)),
         [b'S', b'T', rest @ ..] => Some((Call::Settle, rest)),
         [b'L', b'K', r0, r1, r2, c0, c1, rest @ ..] => {
-            let row = *r0 as u32 + 256 * *r1 as u32 + 65536 * *r2 as u32;
-            let column = *c0 as u16 + 256 * *c1 as u16;
+            let row = u32::from_le_bytes([*r0, *r1, *r2, 0]);
+            let column = u16::from_le_bytes([*c0, *c1]);
             Some((Call::Look { row, column }, rest))
         }
         _ => None,
@@ -51,16 +52,11 @@ pub fn read_trace(heap: Global, trace: &[u8]) -> Result<Vec<Call>, TraceError>
     ensures one { (calls others : List Call) → Reading trace.now calls → Reading trace.now others → calls ≡ others }
 {
     let mut calls = Vec::new(heap);
-    let mut rest = trace;
-    while !rest.is_empty() {
-        let whole = trace.len() - rest.len();
-        let Some((call, next)) = first_record(rest) else {
-            return Err(TraceError::BadRecord { whole });
-        };
-        if calls.push(call).is_err() {
-            return Err(TraceError::NoMemory { whole });
-        }
-        rest = next;
+    for record in Records::new(trace) {
+        let (whole, call) = record?;
+        calls
+            .push(call)
+            .map_err(|_| TraceError::NoMemory { whole })?;
     }
     Ok(calls)
 }

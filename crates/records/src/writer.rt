@@ -14,7 +14,7 @@ pub fn record_size(call: Call) -> Option<usize>
         Call::Command(_) | Call::Address(_) | Call::Protect(_) => Some(3),
         Call::Write(_) => Some(4),
         Call::Read | Call::Settle => Some(2),
-        Call::Look { row, .. } => { if row < 0x100_0000 { Some(7) } else { None } }
+        Call::Look { row, .. } => (row < 0x100_0000).then_some(7),
     }
 }
 
@@ -22,8 +22,7 @@ pub fn record_size(call: Call) -> Option<usize>
 fn room_for(call: Call, room: usize) -> Option<usize>
     ensures { result ≡ size_in call room }
 {
-    let size = record_size(call)?;
-    if size > room { None } else { Some(size) }
+    record_size(call).filter(|size| *size <= room)
 }
 
 // Puts the bytes into `out`, from `at` on.
@@ -45,21 +44,15 @@ fn put_record(out: &mut [u8], at: usize, call: Call)
         Call::Command(byte) => put_bytes(out, at, &[b'C', b'M', byte]),
         Call::Address(byte) => put_bytes(out, at, &[b'A', b'D', byte]),
         Call::Write(code) => {
-            put_bytes(
-                out,
-                at,
-                &[b'D', b'I', (code % 256) as u8, (code / 256) as u8],
-            );
+            let [low, high] = code.to_le_bytes();
+            put_bytes(out, at, &[b'D', b'I', low, high]);
         }
         Call::Read => put_bytes(out, at, b"DO"),
         Call::Protect(level) => put_bytes(out, at, &[b'W', b'P', level]),
         Call::Settle => put_bytes(out, at, b"ST"),
         Call::Look { row, column } => {
-            let r0 = (row % 256) as u8;
-            let r1 = (row / 256 % 256) as u8;
-            let r2 = (row / 65536) as u8;
-            let c0 = (column % 256) as u8;
-            let c1 = (column / 256) as u8;
+            let [r0, r1, r2, _] = row.to_le_bytes();
+            let [c0, c1] = column.to_le_bytes();
             put_bytes(out, at, &[b'L', b'K', r0, r1, r2, c0, c1]);
         }
     }

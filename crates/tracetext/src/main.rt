@@ -5,18 +5,15 @@ mod line;
 mod verdict;
 
 use line::Line;
-use records::reader::first_record;
+use records::iter::Records;
 use std::io;
 use std::io::Read;
 use verdict::judge;
 
 // Prints the whole records, up to the end of the trace or to a bad record.
 fn print_records(rt: &impl Print, trace: &[u8]) -> io::Result<()> {
-    let mut rest = trace;
-    while let Some((call, next)) = first_record(rest) {
-        let offset = trace.len() - rest.len();
+    for (offset, call) in Records::new(trace).map_while(|record| record.ok()) {
         rt.println(Line { offset, call })?;
-        rest = next;
     }
     Ok(())
 }
@@ -26,7 +23,7 @@ fn main(rt: HostRuntime) -> io::Result<()> {
     rt.stdin().read_to_end(&mut trace)?;
     print_records(&rt, &trace)?;
     match judge(rt.alloc(), &trace) {
-        Ok(verdict) => rt.println(verdict),
-        Err(_) => rt.println("no memory"),
+        Ok(accepted) => rt.println(accepted),
+        Err(refused) => rt.println(refused),
     }
 }
