@@ -1,6 +1,6 @@
 -- What one turn of the reader keeps, and what its ends come to. Assumes nothing.
-use Rattle.std.proofs.Common.{◌≡◌, ℕ, ◌-◌, ◌<◌, ◌≤◌, true, List, [], ◌∷◌, ◌++◌, length, take, drop, is_some, Some, None, Ok, Err, sym, refl, ap, ◌∙◌, append_assoc, append-nil, arith, length-append}
-use Rattle.std.proofs.lemmas.List.{take_at, drop_at, nil_from_length}
+use Rattle.std.proofs.Common.{◌≡◌, ℕ, ◌-◌, ◌<◌, true, List, [], ◌∷◌, ◌++◌, length, take, drop, is_some, Some, None, Ok, Err, sym, refl, ap, ◌∙◌, append_assoc, append-nil, arith, length-append}
+use Rattle.std.proofs.lemmas.List.{take_at, drop_at}
 use Rattle.std.proofs.lemmas.Bool.{and_parts, and_from}
 use Rattle.records.specs.declared.call.Call.{Call}
 use Rattle.records.specs.Records.{First, record_of, writable, first, Begins}
@@ -33,16 +33,13 @@ one_more t rest next cs c so b = record {
   narrow = writable_push cs c so.narrow b.narrow;
 }
 
-accepted : (t rest : List ℕ) (cs : List Call) → Sofar t rest cs → length rest ≡ 0 → Reading t cs
-accepted t rest cs so e = so.joins ∙ ap (λ (l : List ℕ). joined cs ++ l) (nil_from_length rest e) ∙ append-nil (joined cs)
+accepted : (t rest : List ℕ) (cs : List Call) → Sofar t rest cs → rest ≡ [] → Reading t cs
+accepted t rest cs so e = so.joins ∙ ap (λ (l : List ℕ). joined cs ++ l) e ∙ append-nil (joined cs)
 
 read_whole : (t : List ℕ) (cs : List Call) → Reading t cs → ◌≡◌ {A = Outcome} (reading t) (Ok cs)
 read_whole t cs p = ap reading p ∙ reading_joined cs
 
 module _ (t rest : List ℕ) (cs : List Call) (so : Sofar t rest cs) where
-  no_longer : length rest ≤ length t
-  no_longer = omega (arith, ap length so.joins, length-append (joined cs) rest)
-
   -- how far it came
   count : length (joined cs) ≡ length t - length rest
   count = omega (arith, ap length so.joins, length-append (joined cs) rest)
@@ -84,7 +81,7 @@ pub record Turn (trace rest : List ℕ) (calls : List Call) : Type 0 where
 
 turn : (trace rest : List ℕ) (calls : List Call) → Sofar trace rest calls → Turn trace rest calls
 turn trace rest calls so =
-    let whole : rest ≡ [] → Reading trace calls = λ e. accepted trace rest calls so (ap length e) in
+    let whole : rest ≡ [] → Reading trace calls = accepted trace rest calls so in
     record {
       sofar = so;
       value = λ e. read_whole trace calls (whole e);
