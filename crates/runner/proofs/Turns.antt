@@ -1,7 +1,7 @@
 -- What one turn of `run` keeps, and how it ends. Assumes nothing.
-use Rattle.std.proofs.Common.{◌≡◌, ℕ, ◌+◌, ◌-◌, ◌<◌, ◌≤◌, Bool, true, false, not, ◌&&◌, eqb, leb, ◌⊎◌, List, [], ◌∷◌, ◌++◌, length, take, drop, Some, None, Ok, Err, sym, refl, ap, ◌∙◌, subst, inl, inr, ⊎_elim, append_assoc, arith, length-append, length-drop, eqb-true, leb-false, leb-true}
+use Rattle.std.proofs.Common.{◌≡◌, ℕ, ◌+◌, ◌-◌, ◌<◌, ◌≤◌, true, false, not, ◌&&◌, eqb, leb, ◌⊎◌, List, [], ◌∷◌, ◌++◌, length, take, drop, Some, None, Ok, Err, sym, refl, ap, ◌∙◌, subst, inl, inr, ⊎_elim, append_assoc, arith, length-append, length-drop, eqb-true, leb-false, leb-true}
 use borrow.Author.Tests.{eqb-false}
-use Rattle.std.proofs.lemmas.Bool.{and_parts, and_cases}
+use Rattle.std.proofs.lemmas.Bool.{and_parts, and_cases, not-true, not-false}
 use Rattle.std.proofs.lemmas.List.{take_at, drop_at, drop-drop, length-take-le, take-append-drop}
 use Rattle.records.specs.Records.{first}
 use Rattle.words.specs.Kind.{Kind}
@@ -20,23 +20,15 @@ pub record Turn (left : List ℕ) (room : ℕ) : Type 0 where
   pub some : 0 < length left
   pub roomy : 4 ≤ room
 
-flipped : (b : Bool) → not b ≡ true → b ≡ false
-flipped false e = refl
-flipped true e = sym e
-
-unflipped : (b : Bool) → not b ≡ false → b ≡ true
-unflipped true e = refl
-unflipped false e = sym e
-
 pub goes : (left : List ℕ) (room : ℕ) → true ≡ (not (eqb (length left) 0) && leb 4 room) → Turn left room
 goes left room e =
     let p = and_parts _ _ (sym e) in
-    let some : (length left ≡ 0 → ⊥) = eqb-false (length left) 0 (flipped (eqb (length left) 0) p.0) in
+    let some : (length left ≡ 0 → ⊥) = eqb-false (length left) 0 (not-true (eqb (length left) 0) p.0) in
     record { some = omega (arith, some); roomy = leb-true 4 room p.1 }
 
 pub stops : (left : List ℕ) (room : ℕ) → false ≡ (not (eqb (length left) 0) && leb 4 room) → (length left ≡ 0) ⊎ (room < 4)
 stops left room e =
-    ⊎_elim (λ p. inl (eqb-true (length left) 0 (unflipped (eqb (length left) 0) p))) (λ q. inr (leb-false 4 room q)) (and_cases (not (eqb (length left) 0)) (leb 4 room) (sym e))
+    ⊎_elim (λ p. inl (eqb-true (length left) 0 (not-false (eqb (length left) 0) p))) (λ q. inr (leb-false 4 room q)) (and_cases (not (eqb (length left) 0)) (leb 4 room) (sym e))
 
 -- the front of what is written, and what follows it
 module _ (out bytes tail : List ℕ) (w k : ℕ) (within : w ≤ length out) (size : length bytes ≡ k) where

@@ -3,13 +3,13 @@ use Rattle.rules.specs.declared.control.Opening.{Opening}
 use Rattle.rules.specs.Running.{Step}
 use Rattle.chip.specs.Calls.{seen, event}
 use Rattle.runner.specs.Results.{bad_bytes}
-use Rattle.runner.specs.Played.{Ran, full}
+use Rattle.runner.specs.Played.{full}
 use Rattle.runner.proofs.Turns.{goes, stops, one_more, finish, no_more, plays_bad, plays_ended}
 use Rattle.runner.proofs.Accepted.{accepted}
 use Rattle.runner.proofs.running.run.Goals as goal
 
-pub returns-in_default : goal.returns-in_default
-returns-in_default g c =
+pub returns-in_default-clause-ran : goal.returns-in_default-clause-ran
+returns-in_default-clause-ran g c =
     let K = g.A.Stored.Word.kind in
     let m = g.A.CellArray.meaning in
     let o = c.args.chip.now.opening in
@@ -17,14 +17,10 @@ returns-in_default g c =
     let turn = goes c.loop-left.left.now (length c.loop-left.results - c.loop-left.written) c.loop-left-test.ensures in
     let room : 4 ≤ length c.args.results.now - c.loop-left.written = omega (arith, turn.roomy, so.same) in
     let ran = finish K o _ _ _ _ _ _ _ so bad_bytes c.stop_at_bad.new.results 4 (plays_bad K o _ _ _ room turn.some (sym c.in_default.ensures.value)) refl c.stop_at_bad.ensures.told in
-    let told : Ran K o (seen m c.args.chip.now) c.args.trace.now c.args.results.now c.stop_at_bad.result.0 c.stop_at_bad.result.1
-    c.stop_at_bad.new.results (seen m c.loop-left.chip) = rw (c.stop_at_bad.ensures.used, c.stop_at_bad.ensures.count) ran in
-    record {
-      ran = told;
-      accepted = accepted K o _ _ _ _ _ _ _ told;
-      rest = c.loop-left.invariant.1;
-      opening = c.loop-left.invariant.2;
-    }
+    rw (c.stop_at_bad.ensures.used, c.stop_at_bad.ensures.count) ran
+
+pub returns-in_default-clause-accepted : goal.returns-in_default-clause-accepted
+returns-in_default-clause-accepted g c = accepted g.A.Stored.Word.kind c.args.chip.now.opening _ _ _ _ _ _ _ (returns-in_default-clause-ran g c)
 
 pub loop-left-preserved : goal.loop-left-preserved
 loop-left-preserved g c =
@@ -43,18 +39,15 @@ loop-left-preserved g c =
     (sym c.in-Some.ensures.value) c.in-Some.ensures.shorter step c.tell-written.ensures.told in
     (rw c.tell-written.ensures.count more, c.play-answer.ensures.rest ∙ c.loop-left.invariant.1, c.play-answer.ensures.opening ∙ c.loop-left.invariant.2)
 
-pub returns : goal.returns
-returns g c =
+pub returns-clause-ran : goal.returns-clause-ran
+returns-clause-ran g c =
     let K = g.A.Stored.Word.kind in
     let o = c.args.chip.now.opening in
     let so = c.loop-left.invariant.0 in
-    let ran = ⊎_elim
+    ⊎_elim
     (λ e. no_more K o _ _ _ _ _ _ _ so (plays_ended K o _ _ _ e))
     (λ h. no_more K o _ _ _ _ _ _ _ so (full (omega (arith, h, so.same))))
-    (stops c.loop-left.left.now (length c.loop-left.results - c.loop-left.written) c.loop-left-test.ensures) in
-    record {
-      ran = ran;
-      accepted = accepted K o _ _ _ _ _ _ _ ran;
-      rest = c.loop-left.invariant.1;
-      opening = c.loop-left.invariant.2;
-    }
+    (stops c.loop-left.left.now (length c.loop-left.results - c.loop-left.written) c.loop-left-test.ensures)
+
+pub returns-clause-accepted : goal.returns-clause-accepted
+returns-clause-accepted g c = accepted g.A.Stored.Word.kind c.args.chip.now.opening _ _ _ _ _ _ _ (returns-clause-ran g c)
