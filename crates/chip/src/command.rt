@@ -134,13 +134,8 @@ fn cycle<A: CellArray>(
             *state = rows_for(Aim::LockStatus);
             Ok(0)
         }
-        (
-            _,
-            None
-            | Some(
-                Command::Program | Command::EraseConfirm | Command::CopyBack | Command::UnlockLast,
-            ),
-        ) => Err(Refusal::Unknown),
+        // a command with no meaning here, or a byte that names none
+        _ => Err(Refusal::Unknown),
     }
 }
 
