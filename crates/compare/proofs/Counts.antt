@@ -3,6 +3,7 @@ use Rattle.std.proofs.Common.{◌≡◌, ℕ, zero, suc, ◌+◌, ◌*◌, ◌<�
 use Rattle.std.specs.List.{range_with_len}
 use Rattle.std.proofs.lemmas.List.{map-id}
 use Rattle.std.proofs.lemmas.List.FromFn.{sum_by-map-range_with_len_more, filter_of_map_range_with_len_more}
+use Rattle.std.proofs.Math.Nat.{mul-le-mul_right}
 use Rattle.arrays.specs.Meaning.{Contents}
 use Rattle.rules.specs.Answering.{Answer}
 use Rattle.compare.specs.Differences.{FirstApart, count_apart, count_rows}
@@ -55,6 +56,9 @@ module _ (h h' : Contents) (columns from : ℕ) where
       subst (λ (m : ℕ). sum (map (λ row. count_apart (h.code row) (h'.code row) columns) (range_with_len from m)) ≡ count_rows h h' columns from (suc n)) (add-one n)
       (more ∙ ap (λ (m : ℕ). m + count_apart (h.code (from + n)) (h'.code (from + n)) columns) before)
 
-  pub rows_small : (n : ℕ) → count_rows h h' columns from n ≤ n * columns
+  rows_small : (n : ℕ) → count_rows h h' columns from n ≤ n * columns
   rows_small zero = omega arith
   rows_small (suc n) = let before = rows_small n in let here = apart_small (h.code (from + n)) (h'.code (from + n)) columns in omega (arith, before, here)
+
+  pub few_rows : (n m : ℕ) → n ≤ m → count_rows h h' columns from n ≤ m * columns
+  few_rows n m l = let small = rows_small n in let more = mul-le-mul_right columns l in omega (arith, small, more)

@@ -1,5 +1,5 @@
 // Answers of calls: whether two lists of them are equal, and how many calls were taken.
-ghost use Rattle.std.specs.Prelude.{◌≡◌, ℕ, Decides};
+ghost use Rattle.std.specs.Prelude.{◌≡◌, ℕ, ◌+◌, Decides, length};
 ghost use Rattle.compare.specs.Played.{count_taken, count_refused};
 ghost use Rattle.compare.specs.FirstRefusals.{FirstRefusalIn};
 
@@ -48,11 +48,19 @@ pub fn same_answers(
     answers == other_answers
 }
 
+// How many calls were taken; all others were refused.
+fn taken_of(answers: &[Result<u16, Refusal>]) -> usize
+    ensures taken { result ≡ count_taken answers.now }
+    ensures others { result + count_refused answers.now ≡ length answers.now }
+{
+    answers.iter().filter(|answer| answer.is_ok()).count()
+}
+
 pub fn count_answers(answers: &[Result<u16, Refusal>]) -> Tally
     ensures taken { result.taken ≡ count_taken answers.now }
     ensures refused { result.refused ≡ count_refused answers.now }
 {
-    let taken = answers.iter().filter(|answer| answer.is_ok()).count();
+    let taken = taken_of(answers);
     Tally {
         taken,
         refused: answers.len() - taken,
@@ -62,10 +70,7 @@ pub fn count_answers(answers: &[Result<u16, Refusal>]) -> Tally
 pub fn first_refusal(answers: &[Result<u16, Refusal>]) -> Option<FirstRefusal>
     ensures { FirstRefusalIn answers.now result }
 {
-    for (call, answer) in answers.iter().enumerate() {
-        if let Err(why) = *answer {
-            return Some(FirstRefusal { call, why });
-        }
-    }
-    None
+    answers.iter().enumerate().find_map(|(call, answer)| answer
+        .err()
+        .map(|why| FirstRefusal { call, why }))
 }

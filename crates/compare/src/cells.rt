@@ -1,10 +1,11 @@
 // The cells of two arrays, place by place.
-ghost use Rattle.std.specs.Prelude.{◌≡◌, ℕ, ◌^◌, ◌≤◌, Decides, MatchOption, ◌==◌};
+ghost use Rattle.std.specs.Prelude.{◌≡◌, ℕ, ◌+◌, ◌-◌, ◌^◌, ◌≤◌, Decides, MatchOption, ◌==◌};
 ghost use Rattle.arrays.specs.Meaning.{Shape};
 ghost use Rattle.rules.specs.Equality.{SameCells};
-ghost use Rattle.compare.specs.Differences.{FirstApart, FirstDifference, count_apart, count_block, same_shape};
+ghost use Rattle.compare.specs.Differences.{FirstApart, FirstDifference, count_apart, count_rows, count_block, same_shape};
 
 use arrays::CellArray;
+use std::ops::Range;
 
 // A place at which two arrays differ, and the two codes.
 #[derive(Clone, Copy, PartialEq, Eq, Debug)]
@@ -42,6 +43,7 @@ impl<'a, A: CellArray, B: CellArray> Pair<'a, A, B> {
         ensures { FirstDifference record { blocks = blocks; columns = columns } (A.CellArray.meaning self.now.one.now).holds (B.CellArray.meaning self.now.other.now).holds result }
     {
         let rows = 32 * blocks as usize;
+        // a `for`, since the answer has four parts, and the library has no lemma on a `find_map` over numbers
         for row in 0..rows {
             if let Some(column) = self.first_in_row(row, columns) {
                 let code = self.one.code(row, column);
@@ -67,14 +69,21 @@ impl<'a, A: CellArray, B: CellArray> Pair<'a, A, B> {
             .count() as u32
     }
 
+    // How many words of some rows differ, of so many a row.
+    fn apart_in_rows(&self, rows: Range<usize>, columns: u16) -> u32
+        requires ordered { rows.start ≤ rows.end }
+        requires few { rows.end ≤ rows.start + 32 }
+        ensures { result ≡ count_rows (A.CellArray.meaning self.now.one.now).holds (B.CellArray.meaning self.now.other.now).holds columns rows.start (rows.end - rows.start) }
+    {
+        rows.map(|row| self.apart_in_row(row, columns)).sum()
+    }
+
     // How many words of the block differ, of so many a row.
     pub fn apart_in_block(&self, block: u32, columns: u16) -> u32
         ensures { result ≡ count_block (A.CellArray.meaning self.now.one.now).holds (B.CellArray.meaning self.now.other.now).holds columns block }
     {
         let first = 32 * block as usize;
-        (first..first + 32)
-            .map(|row| self.apart_in_row(row, columns))
-            .sum()
+        self.apart_in_rows(first..first + 32, columns)
     }
 
     // Whether the arrays are equal in all cells within so many blocks and columns.
