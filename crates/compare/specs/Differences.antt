@@ -18,6 +18,24 @@ pub record DiffersFirst (s : Shape) (h h' : Contents) (d : Difference) : Type 0 
   pub rows_before : (row column : ℕ) → row < d.row → column < s.columns → h.code row column ≡ h'.code row column
   pub columns_before : (column : ℕ) → column < d.column → h.code d.row column ≡ h'.code d.row column
 
+-- two arrays have one code at each of the first columns of a row
+abbrev pub SameRow : Contents → Contents → ℕ → ℕ → Type 0
+SameRow h h' columns row = (column : ℕ) → column < columns → h.code row column ≡ h'.code row column
+
+-- the first row below n in which two arrays differ, or none
+abbrev pub FirstRowApart : Contents → Contents → ℕ → ℕ → Option ℕ → Type 0
+FirstRowApart h h' columns n None = (row : ℕ) → row < n → SameRow h h' columns row
+FirstRowApart h h' columns n (Some row) = (row < n) × (SameRow h h' columns row → ⊥) × ((earlier : ℕ) → earlier < row → SameRow h h' columns earlier)
+
+-- A place of the row at which two arrays differ, with both codes. All places before it in the row are equal.
+pub record DiffersInRow (h h' : Contents) (row columns : ℕ) (d : Difference) : Type 0 where
+  pub in_row : d.row ≡ row
+  pub inside : d.column < columns
+  pub code : d.code ≡ h.code row d.column
+  pub other_code : d.other_code ≡ h'.code row d.column
+  pub apart : d.code ≡ d.other_code → ⊥
+  pub before : (column : ℕ) → column < d.column → h.code row column ≡ h'.code row column
+
 -- the first difference of two arrays within a shape, or none: they are equal in all its cells
 abbrev pub FirstDifference : Shape → Contents → Contents → Option Difference → Type 0
 FirstDifference s h h' None = SameCells s h h'

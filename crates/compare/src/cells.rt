@@ -1,8 +1,8 @@
 // The cells of two arrays, place by place.
-ghost use Rattle.std.specs.Prelude.{◌≡◌, ℕ, ◌+◌, ◌-◌, ◌^◌, ◌≤◌, Decides, MatchOption, ◌==◌};
+ghost use Rattle.std.specs.Prelude.{◌≡◌, ℕ, ◌+◌, ◌-◌, ◌^◌, ◌≤◌, ◌<◌, Decides, IfNone, IfSome, MatchOption, ◌==◌};
 ghost use Rattle.arrays.specs.Meaning.{Shape};
 ghost use Rattle.rules.specs.Equality.{SameCells};
-ghost use Rattle.compare.specs.Differences.{FirstApart, FirstDifference, count_apart, count_rows, count_block, same_shape};
+ghost use Rattle.compare.specs.Differences.{DiffersInRow, FirstApart, FirstDifference, FirstRowApart, count_apart, count_rows, count_block, same_shape};
 
 use arrays::CellArray;
 use std::ops::Range;
@@ -38,25 +38,34 @@ impl<'a, A: CellArray, B: CellArray> Pair<'a, A, B> {
         (0..columns).find(|column| !self.is_same(row, *column))
     }
 
+    // The first place of the row at which the arrays differ, within so many columns.
+    fn difference_in_row(&self, row: usize, columns: usize) -> Option<Difference>
+        ensures none { IfNone result ((k : ℕ) → k < columns → (A.CellArray.meaning self.now.one.now).holds.code row k ≡ (B.CellArray.meaning self.now.other.now).holds.code row k) }
+        ensures some { IfSome result (λ d. DiffersInRow (A.CellArray.meaning self.now.one.now).holds (B.CellArray.meaning self.now.other.now).holds row columns d) }
+    {
+        let column = self.first_in_row(row, columns)?;
+        Some(Difference {
+            row,
+            column,
+            code: self.one.code(row, column),
+            other_code: self.other.code(row, column),
+        })
+    }
+
+    // The first row, of so many, in which the arrays differ within so many columns.
+    fn first_row_apart(&self, rows: usize, columns: usize) -> Option<usize>
+        ensures { FirstRowApart (A.CellArray.meaning self.now.one.now).holds (B.CellArray.meaning self.now.other.now).holds columns rows result }
+    {
+        (0..rows).find(|row| self.first_in_row(*row, columns).is_some())
+    }
+
     // The first place, row after row, at which the arrays differ within so many blocks and columns.
     pub fn first_difference(&self, blocks: u32, columns: usize) -> Option<Difference>
         ensures { FirstDifference record { blocks = blocks; columns = columns } (A.CellArray.meaning self.now.one.now).holds (B.CellArray.meaning self.now.other.now).holds result }
     {
         let rows = 32 * blocks as usize;
-        // a `for`, since the answer has four parts, and the library has no lemma on a `find_map` over numbers
-        for row in 0..rows {
-            if let Some(column) = self.first_in_row(row, columns) {
-                let code = self.one.code(row, column);
-                let other_code = self.other.code(row, column);
-                return Some(Difference {
-                    row,
-                    column,
-                    code,
-                    other_code,
-                });
-            }
-        }
-        None
+        let row = self.first_row_apart(rows, columns)?;
+        self.difference_in_row(row, columns)
     }
 
     // How many words of the row, of so many, differ.
