@@ -25,7 +25,7 @@ pub const K9F2808: Opening = Opening {
 };
 
 // Plays a case on a new chip of two blocks.
-pub fn play_on_new<W: Word + Clone>(
+pub(crate) fn play_on_new<W: Word + Clone>(
     rt: &HostRuntime,
     opening: Opening,
     case: &Case,
@@ -35,5 +35,5 @@ pub fn play_on_new<W: Word + Clone>(
     let mut counts = vec![in heap; 0u8; ROWS]?;
     let array = FlatArray::new(&mut words, &mut counts, COLUMNS);
     let mut chip = Chip::open(opening, array);
-    play_case(rt, &mut chip, case)
+    play_case(rt, case.title, &mut chip, &case.steps)
 }

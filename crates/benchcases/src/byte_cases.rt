@@ -10,14 +10,14 @@ fn both(heap: Global, title: &'static str, first: u16, second: u16) -> Result<Ca
     let mut case = Case::new(heap, title);
     case.program(first)?;
     case.program(second)?;
-    case.fetch(0, 0, 0x0C)?;
+    case.read_word(0, 0, 0x0C)?;
     Ok(case)
 }
 
 fn row_cycles(heap: Global) -> Result<Case, AllocError> {
     let mut case = Case::new(heap, "row cycles 00h, 80h mean row 0");
     case.program(0x5A)?;
-    case.fetch(0x00, 0x80, 0x5A)?;
+    case.read_word(0x00, 0x80, 0x5A)?;
     Ok(case)
 }
 

@@ -2,7 +2,7 @@
 use crate::bench::{COLUMNS, K9F2808, ROWS};
 use crate::case::Case;
 use crate::expected::{gives, play_case, refuses, taken};
-use anyhow::anyhow;
+use anyhow::Context;
 use arrays::{DefectArray, FlatArray};
 use chip::Chip;
 use records::call::Call;
@@ -25,9 +25,8 @@ pub fn run(rt: &HostRuntime) -> anyhow::Result<()> {
     let mut words = vec![in heap; 0xFFu8; ROWS * COLUMNS]?;
     let mut counts = vec![in heap; 0u8; ROWS]?;
     let mut array = DefectArray::new(FlatArray::new(&mut words, &mut counts, COLUMNS));
-    if array.list(0).is_err() {
-        return Err(anyhow!("the block is not listed"));
-    }
+    array.list(0).context("the block is not listed")?;
     let mut chip = Chip::open(K9F2808, array);
-    play_case(rt, &mut chip, &settles(heap)?)
+    let case = settles(heap)?;
+    play_case(rt, case.title, &mut chip, &case.steps)
 }

@@ -14,9 +14,9 @@ fn cut_off(heap: Global) -> Result<Case, AllocError> {
     );
     case.start(0x0F)?;
     case.expect(&[taken(Call::Command(0xFF))])?;
-    case.fetch(0, 0, 0xF00F)?;
+    case.read_word(0, 0, 0xF00F)?;
     case.program(0xF0)?;
-    case.fetch(0, 0, 0xF000)?;
+    case.read_word(0, 0, 0xF000)?;
     case.expect(&[refuses(Call::Write(0x0101), Refusal::Unlawful)])?;
     Ok(case)
 }

@@ -3,8 +3,7 @@ ghost use Rattle.std.specs.Prelude.{◌≡◌, true, Ok, Err};
 ghost use Rattle.rules.specs.Running.{Step};
 ghost use Rattle.chip.specs.Calls.{seen, event};
 
-use crate::case::Case;
-use anyhow::anyhow;
+use anyhow::ensure;
 use arrays::CellArray;
 use chip::Chip;
 use compare::answers::same_answer;
@@ -66,14 +65,13 @@ fn show(rt: &HostRuntime, answer: Result<u16, Refusal>) -> io::Result<()> {
 // Plays a case. The first answer that is not the one expected ends the program.
 pub fn play_case<A: CellArray>(
     rt: &HostRuntime,
+    title: &str,
     chip: &mut Chip<A>,
-    case: &Case,
+    case: &[Expected],
 ) -> anyhow::Result<()> {
-    rt.println(case.title)?;
-    for expected in &case.steps {
-        if !plays(chip, *expected) {
-            return Err(anyhow!("not the answer that is expected"));
-        }
+    rt.println(title)?;
+    for expected in case {
+        ensure!(plays(chip, *expected), "not the answer that is expected");
         show(rt, expected.answer)?;
     }
     Ok(())

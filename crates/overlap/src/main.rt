@@ -42,13 +42,14 @@ fn in_both_orders<W: Word + Clone>(
 // Both parts are programmed as they are.
 fn bytes(rt: &HostRuntime) -> io::Result<()> {
     println!(rt; "Bytes: 0F in columns 0 to 299, 3C in columns 200 to 527")?;
+    let erased = <u8 as Word>::erased().to_code();
     let low = NamedPage {
         name: "0F",
-        codes: &part::<u8>(0..300, 0x0F),
+        codes: &part(0..300, 0x0F, erased),
     };
     let high = NamedPage {
         name: "3C",
-        codes: &part::<u8>(200..528, 0x3C),
+        codes: &part(200..528, 0x3C, erased),
     };
     in_both_orders::<u8>(rt, low, high)
 }
@@ -58,13 +59,14 @@ fn doubting_bytes(rt: &HostRuntime) -> io::Result<()> {
     println!(rt;
         "Doubting bytes: 0F in columns 0 to 299, then 3C in columns 200 to 527, interrupted"
     )?;
+    let erased = DoubtingByte::erased().to_code();
     let low = NamedPage {
         name: "0F",
-        codes: &part::<DoubtingByte>(0..300, 0x0F),
+        codes: &part(0..300, 0x0F, erased),
     };
     let high = NamedPage {
         name: "torn 3C",
-        codes: &torn::<DoubtingByte>(part::<DoubtingByte>(200..528, 0x3C)),
+        codes: &torn::<DoubtingByte>(part(200..528, 0x3C, erased)),
     };
     in_both_orders::<DoubtingByte>(rt, low, high)
 }

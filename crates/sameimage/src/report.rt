@@ -1,6 +1,5 @@
 // What is printed of a comparison.
 use crate::settings::Settings;
-use crate::sides::TraceFile;
 use arrays::CellArray;
 use compare::answers::count_answers;
 use compare::cells::Pair;
@@ -9,14 +8,12 @@ use std::io;
 
 pub fn answers(
     rt: &HostRuntime,
-    one: &TraceFile,
-    other: &TraceFile,
+    name: &str,
+    other_name: &str,
     comparison: &Comparison,
 ) -> io::Result<()> {
-    let name = one.name;
     let tally = count_answers(&comparison.answers);
     println!(rt; "{name}: {tally}")?;
-    let other_name = other.name;
     let other_tally = count_answers(&comparison.other_answers);
     println!(rt; "{other_name}: {other_tally}")?;
     if comparison.answers_equal {

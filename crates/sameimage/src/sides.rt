@@ -15,21 +15,18 @@ const DEVICE: u8 = 0x76;
 const LIMIT: u8 = 3;
 
 // The trace of a side, and the name of its file.
-#[derive(Drop)]
+#[derive(Clone, Copy)]
 pub struct TraceFile<'a> {
     pub name: &'a str,
-    pub bytes: Vec<u8>,
+    pub bytes: &'a [u8],
 }
 
-impl<'a> TraceFile<'a> {
-    pub fn read(rt: &HostRuntime, name: &'a str) -> anyhow::Result<TraceFile<'a>> {
-        let bytes = fs::read(rt, name).map_err(|error| anyhow!("{name}: {error}"))?;
-        Ok(TraceFile { name, bytes })
-    }
+pub fn read_file(rt: &HostRuntime, name: &str) -> anyhow::Result<Vec<u8>> {
+    fs::read(rt, name).map_err(|error| anyhow!("{name}: {error}"))
 }
 
 // A message for a comparison that was not made: of a trace that was not read it names the file.
-fn message(error: CompareError, one: &TraceFile, other: &TraceFile) -> anyhow::Error {
+fn message(error: CompareError, one: TraceFile, other: TraceFile) -> anyhow::Error {
     let file = match error {
         CompareError::NotRead {
             side: Side::One,
@@ -47,8 +44,8 @@ fn message(error: CompareError, one: &TraceFile, other: &TraceFile) -> anyhow::E
 pub fn compare_sides<W: Word + Clone>(
     rt: &HostRuntime,
     settings: Settings,
-    one: &TraceFile,
-    other: &TraceFile,
+    one: TraceFile,
+    other: TraceFile,
 ) -> anyhow::Result<()> {
     let heap = rt.alloc();
     let columns = settings.part.columns() as usize;
@@ -65,17 +62,17 @@ pub fn compare_sides<W: Word + Clone>(
     let build = Build {
         words: &mut words,
         counts: &mut counts,
-        trace: &one.bytes,
+        trace: one.bytes,
     };
     let other_build = Build {
         words: &mut other_words,
         counts: &mut other_counts,
-        trace: &other.bytes,
+        trace: other.bytes,
     };
     let builds = compare_builds(heap, opening, build, other_build).map_err(|error| message(
         error, one, other,
     ))?;
-    report::answers(rt, one, other, &builds.comparison)?;
+    report::answers(rt, one.name, other.name, &builds.comparison)?;
     if builds.comparison.cells_equal {
         report::equal(rt, settings)?;
     } else {
