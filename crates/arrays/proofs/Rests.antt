@@ -62,12 +62,6 @@ module _ (w c w' c' n n' : ℕ) (cs ns cs' ns' : List ℕ) (e : lent (flat_lent 
   pub same_columns : n' ≡ n
   same_columns = ap (λ r. (lent_of r).columns) e
 
-  pub same_words_name : w' ≡ w
-  same_words_name = ap (λ r. (lent_of r).words_name) e
-
-  pub same_counts_name : c' ≡ c
-  same_counts_name = ap (λ r. (lent_of r).counts_name) e
-
   pub rest_beyond : Beyond n cs ns cs' ns'
   rest_beyond =
       let p : length cs' ≡ length cs = ap (λ r. (lent_of r).words_length) e in
