@@ -1,6 +1,6 @@
 -- The flat array's meaning: its laws, and what its two writes come to. Assumes nothing.
 use Rattle.std.proofs.Common.{◌≡◌, ℕ, zero, suc, ◌+◌, ◌*◌, ◌/◌, ◌%◌, ◌<◌, ◌≤◌, min, Bool, true, false, cond, ◌&&◌, ltb, leb, List, [], ◌∷◌, map, length, get_or, set, sym, refl, ap, ◌∙◌, ap₂, ⊎_elim, le_of_suc-le-suc, not-suc-le-zero, add-mul, arith, length-set, get_or-set_other, get_or-set_same}
-use Rattle.std.proofs.lemmas.Bool.{and_parts, and_from, and_left, and_right, cond-true, cond-false, cond_both, lt-ltb, le-ltb, ltb-true, leb-true, cases_order}
+use Rattle.std.proofs.lemmas.Bool.{and_parts, and_from, and_left, and_right, cond-true, cond-false, cond_both, lt-ltb, le-ltb, ltb-true, leb-true, cases_lt, cases_order}
 use Rattle.std.proofs.lemmas.Nat.{mul-add-lt, mul-le, div-add-mod'}
 use Rattle.std.proofs.lemmas.List.{length-map}
 use Rattle.words.specs.Kind.{Kind, KindLaws}
@@ -93,6 +93,27 @@ module _ (K : Kind) (columns : ℕ) (cs ns : List ℕ) where
 pub flat_laws : {X : Type 0} (K : Kind) (f : X → ℕ) → KindLaws K → ((x : X) → K.lawful (f x) ≡ true) → (columns : ℕ) (ws : List X) (ns : List ℕ) → MeaningLaws K (flat K columns (map f ws) ns)
 flat_laws K f laws stored columns ws ns = codes_laws K columns (map f ws) ns laws (map_lawful K f stored ws)
 
+-- memory with as much room as before
+module _ (K : Kind) (columns : ℕ) (cs cs' ns ns' : List ℕ) (size : flat_blocks columns (length cs') (length ns') ≡ flat_blocks columns (length cs) (length ns)) where
+  -- a code outside the n rows from a first one on, where the codes before them and after them are as they were
+  code_kept : (first n row column : ℕ) → ((j : ℕ) → j < first * columns → get_or cs' j 0 ≡ get_or cs j 0)
+      → ((j : ℕ) → first * columns + n * columns ≤ j → get_or cs' j 0 ≡ get_or cs j 0)
+      → (column < columns → first ≤ row → row < first + n → ⊥) → (flat K columns cs' ns').holds.code row column ≡ (flat K columns cs ns).holds.code row column
+  code_kept first n row column before after out =
+      ap (λ (m : ℕ). cond (ltb row (32 * m) && ltb column columns) (get_or cs' (row * columns + column) 0) K.erased) size
+      ∙ cond_cong (ltb row (32 * flat_blocks columns (length cs) (length ns)) && ltb column columns) _ _ _
+      (λ t. let p : column < columns = ltb-true column columns (and_parts _ _ t).1 in
+      ⊎_elim
+      (λ (low : row < first). before (row * columns + column) (omega (arith, mul-add-lt row columns column first low p)))
+      (λ (from : first ≤ row). ⊎_elim
+      (λ (to : row < first + n). absurd (out p from to))
+      (λ (high : first + n ≤ row). after (row * columns + column) (omega (arith, add-mul first n columns, mul-le (first + n) columns row columns high (omega arith))))
+      (cases_lt row (first + n)))
+      (cases_lt row first))
+
+  count_kept : (row : ℕ) → get_or ns' row 0 ≡ get_or ns row 0 → (flat K columns cs' ns').holds.count row ≡ (flat K columns cs ns).holds.count row
+  count_kept row e = ap₂ (λ (m x : ℕ). cond (ltb row (32 * m)) (min 15 x) 0) size e
+
 capped : (closes : Bool) (m : ℕ) → min 15 (counted closes m) ≡ counted closes m
 capped true m = refl
 capped false m = omega arith
@@ -115,14 +136,7 @@ module _ (K : Kind) (columns : ℕ) (cs cs' ns ns' : List ℕ) (at : ℕ) (codes
       ∙ ap (λ (r : ℕ). get_or cs' (r * columns + column) 0) e ∙ joined.inside column p
       ∙ ap (λ (r : ℕ). K.join (get_or cs (r * columns + column) 0) (get_or codes column K.erased)) (sym e)
       ∙ ap (λ (x : ℕ). K.join x (get_or codes column K.erased)) (sym (code_in K columns cs ns row column h p)))
-      (λ ne. ap (λ (m : ℕ). cond (ltb row (32 * m) && ltb column columns) (get_or cs' (row * columns + column) 0) K.erased) programmed_size
-      ∙ cond_cong (ltb row (32 * flat_blocks columns (length cs) (length ns)) && ltb column columns) _ _ _
-      (λ t. let p : column < columns = ltb-true column columns (and_parts _ _ t).1 in
-      ⊎_elim (λ (e : row ≡ at). absurd (ne e p))
-      (⊎_elim
-      (λ (low : row < at). joined.before (row * columns + column) (omega (arith, mul-add-lt row columns column at low p)))
-      (λ (high : at < row). joined.after (row * columns + column) (omega (arith, mul-le (at + 1) columns row columns (omega arith) (omega arith)))))
-      (cases_order row at)))
+      (λ ne. code_kept K columns cs cs' ns ns' programmed_size at 1 row column joined.before (λ j p. joined.after j (omega (arith, p))) (λ p from to. ne (omega arith) p))
 
   new_count : min 15 (get_or ns' at 0) ≡ counted closes (min 15 (get_or ns at 0))
   new_count =
@@ -134,9 +148,7 @@ module _ (K : Kind) (columns : ℕ) (cs cs' ns ns' : List ℕ) (at : ℕ) (codes
       (λ e. let h : row < 32 * flat_blocks columns (length cs) (length ns) = rw e within in
       count_in K columns cs' ns' row (still row h) ∙ ap (λ (r : ℕ). min 15 (get_or ns' r 0)) e ∙ new_count
       ∙ ap (λ (r : ℕ). counted closes (min 15 (get_or ns r 0))) (sym e) ∙ ap (counted closes) (sym (count_in K columns cs ns row h)))
-      (λ ne. ap (λ (m : ℕ). cond (ltb row (32 * m)) (min 15 (get_or ns' row 0)) 0) programmed_size
-      ∙ cond_cong (ltb row (32 * flat_blocks columns (length cs) (length ns))) _ _ _
-      (λ t. ap (λ (l : List ℕ). min 15 (get_or l row 0)) counts ∙ ap (min 15) (get_or-set_other ns at row _ 0 ne)))
+      (λ ne. count_kept K columns cs cs' ns ns' programmed_size row (ap (λ (l : List ℕ). get_or l row 0) counts ∙ get_or-set_other ns at row _ 0 ne))
 
   pub flat_programmed : (flat K columns cs' ns').holds ≡ performed K (programs at codes closes) (flat K columns cs ns).holds
   flat_programmed = contents_same (shape_same columns programmed_size) programmed_code programmed_count
@@ -162,27 +174,18 @@ module _ (K : Kind) (columns : ℕ) (cs cs' ns ns' : List ℕ) (block value : �
   filled_code row column = at_place (block_of row) block column columns _ _ _
       (λ e p. code_in K columns cs' ns' row column (in_block row e) p ∙ ap (λ (x : ℕ). get_or cs' x 0) (block_place row block columns column e)
       ∙ codes.inside (row % 32 * columns + column) (omega (arith, mul-add-lt (row % 32) columns column 32 (omega arith) p)))
-      (λ ne. ap (λ (m : ℕ). cond (ltb row (32 * m) && ltb column columns) (get_or cs' (row * columns + column) 0) K.erased) filled_size
-      ∙ cond_cong (ltb row (32 * flat_blocks columns (length cs) (length ns)) && ltb column columns) _ _ _
-      (λ t. let p : column < columns = ltb-true column columns (and_parts _ _ t).1 in
-      ⊎_elim (λ (e : block_of row ≡ block). absurd (ne e p))
-      (⊎_elim
-      (λ (low : block_of row < block). codes.before (row * columns + column) (omega (arith, mul-add-lt row columns column (block * 32) (omega arith) p)))
-      (λ (high : block < block_of row). codes.after (row * columns + column) (omega (arith, mul-le (block * 32 + 32) columns row columns (omega arith) (omega arith)))))
-      (cases_order (block_of row) block)))
+      (λ ne. code_kept K columns cs cs' ns ns' filled_size (block * 32) 32 row column codes.before codes.after (λ p from to. ne (omega arith) p))
 
   filled_count : (row : ℕ) → (flat K columns cs' ns').holds.count row ≡ (performed K (fills block value) (flat K columns cs ns).holds).count row
   filled_count row = at_row (block_of row) block _ _ _
       (λ e. let place : row ≡ block * 32 + row % 32 = omega arith in
       count_in K columns cs' ns' row (in_block row e) ∙ ap (λ (x : ℕ). min 15 (get_or ns' x 0)) place ∙ ap (min 15) (counts.inside (row % 32) (omega arith)))
-      (λ ne. ap (λ (m : ℕ). cond (ltb row (32 * m)) (min 15 (get_or ns' row 0)) 0) filled_size
-      ∙ cond_cong (ltb row (32 * flat_blocks columns (length cs) (length ns))) _ _ _
-      (λ t. ap (min 15)
+      (λ ne. count_kept K columns cs cs' ns ns' filled_size row
       (⊎_elim (λ (e : block_of row ≡ block). absurd (ne e))
       (⊎_elim
       (λ (low : block_of row < block). counts.before row (omega arith))
       (λ (high : block < block_of row). counts.after row (omega arith)))
-      (cases_order (block_of row) block))))
+      (cases_order (block_of row) block)))
 
   pub flat_filled : (flat K columns cs' ns').holds ≡ performed K (fills block value) (flat K columns cs ns).holds
   flat_filled = contents_same (shape_same columns filled_size) filled_code filled_count
