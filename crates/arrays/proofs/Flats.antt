@@ -5,7 +5,7 @@ use Rattle.std.proofs.lemmas.Nat.{mul-add-lt, mul-le, div-add-mod'}
 use Rattle.std.proofs.lemmas.List.{length-map}
 use Rattle.words.specs.Kind.{Kind, KindLaws}
 use Rattle.arrays.specs.Meaning.{MeaningLaws, programs, fills, performed, counted, block_of, New, new_contents}
-use Rattle.arrays.specs.Flat.{flat, flat_contents, flat_shape, flat_blocks, Joined, Put}
+use Rattle.arrays.specs.Flat.{flat, flat_contents, flat_shape, flat_blocks, flat_places, flat_rows, Joined, Put}
 use Rattle.arrays.proofs.Asked.{contents_same, shape_same, at_place, at_row}
 
 cond_cong : {X : Type 0} (t : Bool) (x y e : X) → (t ≡ true → x ≡ y) → cond t x e ≡ cond t y e
@@ -101,7 +101,7 @@ module _ (K : Kind) (columns : ℕ) (cs cs' ns ns' : List ℕ) (size : flat_bloc
       → (column < columns → first ≤ row → row < first + n → ⊥) → (flat K columns cs' ns').holds.code row column ≡ (flat K columns cs ns).holds.code row column
   code_kept first n row column before after out =
       ap (λ (m : ℕ). cond (ltb row (32 * m) && ltb column columns) (get_or cs' (row * columns + column) 0) K.erased) size
-      ∙ cond_cong (ltb row (32 * flat_blocks columns (length cs) (length ns)) && ltb column columns) _ _ _
+      ∙ cond_cong (ltb row (flat_rows columns cs ns) && ltb column columns) _ _ _
       (λ t. let p : column < columns = ltb-true column columns (and_parts _ _ t).1 in
       ⊎_elim
       (λ (low : row < first). before (row * columns + column) (omega (arith, mul-add-lt row columns column first low p)))
@@ -120,18 +120,18 @@ capped false m = omega arith
 
 -- after a program of one row
 module _ (K : Kind) (columns : ℕ) (cs cs' ns ns' : List ℕ) (at : ℕ) (codes : List ℕ) (closes : Bool)
-    (within : at < 32 * flat_blocks columns (length cs) (length ns))
+    (within : at < flat_rows columns cs ns)
     (joined : Joined K cs cs' (at * columns) codes columns)
     (counts : ns' ≡ set ns at (counted closes (min 15 (get_or ns at 0)))) where
   programmed_size : flat_blocks columns (length cs') (length ns') ≡ flat_blocks columns (length cs) (length ns)
   programmed_size = ap₂ (flat_blocks columns) joined.len (ap length counts ∙ length-set ns at _)
 
-  abbrev still : (row : ℕ) → row < 32 * flat_blocks columns (length cs) (length ns) → row < 32 * flat_blocks columns (length cs') (length ns')
+  abbrev still : (row : ℕ) → row < flat_rows columns cs ns → row < flat_rows columns cs' ns'
   still row h = rw programmed_size h
 
   programmed_code : (row column : ℕ) → (flat K columns cs' ns').holds.code row column ≡ (performed K (programs at codes closes) (flat K columns cs ns).holds).code row column
   programmed_code row column = at_place row at column columns _ _ _
-      (λ e p. let h : row < 32 * flat_blocks columns (length cs) (length ns) = rw e within in
+      (λ e p. let h : row < flat_rows columns cs ns = rw e within in
       code_in K columns cs' ns' row column (still row h) p
       ∙ ap (λ (r : ℕ). get_or cs' (r * columns + column) 0) e ∙ joined.inside column p
       ∙ ap (λ (r : ℕ). K.join (get_or cs (r * columns + column) 0) (get_or codes column K.erased)) (sym e)
@@ -145,7 +145,7 @@ module _ (K : Kind) (columns : ℕ) (cs cs' ns ns' : List ℕ) (at : ℕ) (codes
 
   programmed_count : (row : ℕ) → (flat K columns cs' ns').holds.count row ≡ (performed K (programs at codes closes) (flat K columns cs ns).holds).count row
   programmed_count row = at_row row at _ _ _
-      (λ e. let h : row < 32 * flat_blocks columns (length cs) (length ns) = rw e within in
+      (λ e. let h : row < flat_rows columns cs ns = rw e within in
       count_in K columns cs' ns' row (still row h) ∙ ap (λ (r : ℕ). min 15 (get_or ns' r 0)) e ∙ new_count
       ∙ ap (λ (r : ℕ). counted closes (min 15 (get_or ns r 0))) (sym e) ∙ ap (counted closes) (sym (count_in K columns cs ns row h)))
       (λ ne. count_kept K columns cs cs' ns ns' programmed_size row (ap (λ (l : List ℕ). get_or l row 0) counts ∙ get_or-set_other ns at row _ 0 ne))
@@ -167,8 +167,8 @@ module _ (K : Kind) (columns : ℕ) (cs cs' ns ns' : List ℕ) (block value : �
   filled_size : flat_blocks columns (length cs') (length ns') ≡ flat_blocks columns (length cs) (length ns)
   filled_size = ap₂ (flat_blocks columns) codes.len counts.len
 
-  in_block : (row : ℕ) → block_of row ≡ block → row < 32 * flat_blocks columns (length cs') (length ns')
-  in_block row e = let n : ℕ = flat_blocks columns (length cs) (length ns) in let h : row < 32 * n = omega arith in rw filled_size h
+  in_block : (row : ℕ) → block_of row ≡ block → row < flat_rows columns cs' ns'
+  in_block row e = let h : row < flat_rows columns cs ns = omega arith in rw filled_size h
 
   filled_code : (row column : ℕ) → (flat K columns cs' ns').holds.code row column ≡ (performed K (fills block value) (flat K columns cs ns).holds).code row column
   filled_code row column = at_place (block_of row) block column columns _ _ _
@@ -192,22 +192,22 @@ module _ (K : Kind) (columns : ℕ) (cs cs' ns ns' : List ℕ) (block value : �
 
 -- memory that was erased is new
 pub flat_new : (K : Kind) (columns : ℕ) (cs cs' ns ns' : List ℕ)
-    → Put cs cs' 0 (flat_blocks columns (length cs) (length ns) * (32 * columns)) K.erased → Put ns ns' 0 (32 * flat_blocks columns (length cs) (length ns)) 0
+    → Put cs cs' 0 (flat_places columns cs ns) K.erased → Put ns ns' 0 (flat_rows columns cs ns) 0
     → New K (flat K columns cs' ns').holds
 flat_new K columns cs cs' ns ns' codes counts =
     let size : flat_blocks columns (length cs') (length ns') ≡ flat_blocks columns (length cs) (length ns) = ap₂ (flat_blocks columns) codes.len counts.len in
     let m : ℕ = flat_blocks columns (length cs) (length ns) in
     record {
       codes = λ row column.
-          cond_both (ltb row (32 * flat_blocks columns (length cs') (length ns')) && ltb column columns) (get_or cs' (row * columns + column) 0) K.erased (λ x. x ≡ K.erased)
+          cond_both (ltb row (flat_rows columns cs' ns') && ltb column columns) (get_or cs' (row * columns + column) 0) K.erased (λ x. x ≡ K.erased)
           (λ t. let p : column < columns = ltb-true column columns (and_parts _ _ t).1 in
-          let h : row < 32 * flat_blocks columns (length cs') (length ns') = ltb-true _ _ (and_parts _ _ t).0 in
+          let h : row < flat_rows columns cs' ns' = ltb-true _ _ (and_parts _ _ t).0 in
           let k : row < 32 * m = rw (sym size) h in
           ap (λ (x : ℕ). get_or cs' x 0) (omega arith) ∙ codes.inside (row * columns + column) (omega (arith, mul-add-lt row columns column (32 * m) k p)))
           (λ f. refl);
       counts = λ row.
-          cond_both (ltb row (32 * flat_blocks columns (length cs') (length ns'))) (min 15 (get_or ns' row 0)) 0 (λ x. x ≡ 0)
-          (λ t. let h : row < 32 * flat_blocks columns (length cs') (length ns') = ltb-true _ _ t in
+          cond_both (ltb row (flat_rows columns cs' ns')) (min 15 (get_or ns' row 0)) 0 (λ x. x ≡ 0)
+          (λ t. let h : row < flat_rows columns cs' ns' = ltb-true _ _ t in
           let k : row < 32 * m = rw (sym size) h in
           ap (λ (x : ℕ). min 15 (get_or ns' x 0)) (omega arith) ∙ ap (min 15) (counts.inside row k))
           (λ f. refl);
@@ -215,7 +215,7 @@ flat_new K columns cs cs' ns ns' codes counts =
 
 -- the same, as an equation
 pub flat_erased : (K : Kind) (columns : ℕ) (cs cs' ns ns' : List ℕ)
-    → Put cs cs' 0 (flat_blocks columns (length cs) (length ns) * (32 * columns)) K.erased → Put ns ns' 0 (32 * flat_blocks columns (length cs) (length ns)) 0
+    → Put cs cs' 0 (flat_places columns cs ns) K.erased → Put ns ns' 0 (flat_rows columns cs ns) 0
     → flat_contents K columns cs' ns' ≡ new_contents K (flat_shape columns cs ns)
 flat_erased K columns cs cs' ns ns' codes counts =
     let new = flat_new K columns cs cs' ns ns' codes counts in
