@@ -13,6 +13,7 @@ use words::Word;
 #[derive(Drop)]
 pub struct FlatArray<'a, W> {
     pub words: &'a mut [W],
+    // a count byte for each row, in the caller's own memory: a rule of the project
     pub counts: &'a mut [u8],
     pub columns: usize,
 }

@@ -63,7 +63,7 @@ pub(crate) fn join_row<W: Word>(words: &mut [W], at: usize, codes: &[u16])
     requires lawful { all_lawful W.kind codes.now ≡ true }
     ensures { Joined W.kind (map W.code words.old) (map W.code words.new) at codes.now (length codes.now) }
 {
-    // over the codes alone: of the words that a zip with `iter_mut` writes a proof learns nothing
+    // over the codes alone: with `words[at..].iter_mut().zip(codes)`, here or in a function of its own, the goal `returns` stays open, since of the words after that loop a proof knows how many there are and no more
     for (i, code) in codes.iter().enumerate() {
         words[at + i] = joined(words[at + i], *code);
     }

@@ -5,16 +5,10 @@ use Rattle.std.specs.Int.Bits.{bit_and, bit_or, bit_xor, and_lt}
 use Rattle.std.proofs.lemmas.Nat.{or_lt, xor_lt}
 use Rattle.std.proofs.lemmas.Bool.{ltb-true, lt-ltb, eqb-true, eq-eqb, and_parts, and_from}
 use Rattle.std.specs.Int.{bit_at}
-use Rattle.std.proofs.lemmas.Nat.Bits.{bit_at-lt, bit_at_and, bit_at_or, bit_at_xor, bit_at_ones, bit_at-zero, same_from_bits_below}
+use Rattle.std.proofs.lemmas.Nat.Bits.{bit_at_and, bit_at_or, bit_at_ones, bit_at-zero, same_from_bits_below}
+use Rattle.words.specs.Bits.{bit_le, bit_of_xor}
 use Rattle.words.specs.Kind.{KindLaws}
 use Rattle.words.specs.Kinds.{erased_cells, doubtful_cells, joined_doubt, doubting_kind, Doubted}
-
--- one bit of a number
-bit_le : (n i : ℕ) → bit_at n i ≤ 1
-bit_le n i = omega (arith, bit_at-lt n i)
-
-pub bit_of_xor : (a b i : ℕ) → bit_at (bit_xor a b) i ≡ max (bit_at a i) (bit_at b i) - min (bit_at a i) (bit_at b i)
-bit_of_xor a b i = omega (arith, bit_at_xor a b i, bit_at-lt a i, bit_at-lt b i)
 
 -- two bytes with no set bit in common
 pub record Apart (b d : ℕ) : Type 0 where

@@ -7,7 +7,7 @@ ghost use Rattle.words.specs.BinaryLaws.{binary_laws, cut_lawful};
 use crate::word::Word;
 use refusals::Refusal;
 
-// Its own impl and one for u16: a common one over a trait of such numbers would only call that trait, which both would still implement, for five of the eight methods.
+// An impl for each of the two numbers: one for both, over a trait of numbers whose bits are the cells, was tried and proves, but each number still writes five of these bodies for that trait, and it is longer.
 impl Word for u8 {
     ghost kind = { byte_kind };
 

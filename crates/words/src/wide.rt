@@ -7,6 +7,7 @@ ghost use Rattle.words.specs.BinaryLaws.{binary_laws, cut_lawful};
 use crate::word::Word;
 use refusals::Refusal;
 
+// Its own impl, as byte.rt says.
 impl Word for u16 {
     ghost kind = { word16_kind };
 

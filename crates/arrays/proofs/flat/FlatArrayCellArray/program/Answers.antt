@@ -2,7 +2,7 @@ use Rattle.std.proofs.Common.{ℕ, ◌*◌, ◌<◌, eqb, map, length, sym, subs
 use Rattle.std.proofs.lemmas.List.{length-map}
 use Rattle.std.proofs.lemmas.Bool.{and_from, and_parts, lt-ltb, ltb-true, eqb-true}
 use Rattle.words.specs.Kind.{all_lawful}
-use Rattle.arrays.specs.Flat.{flat_blocks, Joined}
+use Rattle.arrays.specs.Flat.{flat_rows, Joined}
 use Rattle.arrays.proofs.Asked.{accepted}
 use Rattle.arrays.proofs.Flats.{row_fits, flat_programmed}
 use Rattle.arrays.proofs.Rests.{rest_programmed}
@@ -29,7 +29,7 @@ returns g c =
     let cs = map f s.words.now in
     let cs' = map f c.join_row.new.words in
     let inside = ltb-true _ _ (sym c.if-not-has_row.ensures) in
-    let within : c.args.row < 32 * flat_blocks s.columns (length cs) (length s.counts.now) = omega arith in
+    let within : c.args.row < flat_rows s.columns cs s.counts.now = omega arith in
     let page = sym c.if-not-is_page.ensures in
     let joined = subst (λ (m : ℕ). Joined K cs cs' (c.args.row * s.columns) c.args.codes.now m) (eqb-true _ _ (and_parts _ _ page).0) c.join_row.ensures in
     record {
