@@ -31,7 +31,7 @@ fn is_apart(a: u32, b: u32) -> bool
     a % 2 != b % 2 || (a / 2048) % 2 != (b / 2048) % 2
 }
 
-// The last cycle of a row.
+// The last cycle of a row. The chip's fields come one by one, so that their types say what changes.
 fn arrive<A: CellArray>(
     control: &mut Control,
     opening: Opening,
@@ -100,7 +100,7 @@ fn arrive<A: CellArray>(
     }
 }
 
-// An address cycle of a chip that is not dead.
+// An address cycle of a chip that is not dead; the fields come as they do to `arrive`.
 fn cycle<A: CellArray>(
     control: &mut Control,
     opening: Opening,

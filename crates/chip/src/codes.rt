@@ -4,7 +4,8 @@ ghost use Rattle.words.specs.Kind.{Kind};
 
 use words::Word;
 
-// The code of an erased word.
+// The code of an erased word. This and the next are two questions of a word kind: one function of both
+// would need a parameter to say which.
 pub fn erased_code<W: Word>() -> u16
     ensures { result ≡ W.kind.erased }
 {

@@ -5,7 +5,7 @@ ghost use Rattle.chip.specs.Calls.{seen, Called};
 ghost use Rattle.chip.specs.Cycles.{Cycled};
 
 use crate::landing::cut_off;
-use crate::starts::{is_full, refuse_start, rows_for};
+use crate::starts::{is_full, refuse_start, rows_for, told};
 use crate::{Chip, codes};
 use arrays::CellArray;
 use records::call::Call;
@@ -40,11 +40,7 @@ fn cycle<A: CellArray>(
         (_, Some(Command::Reset)) => {
             read_from(control, Pointer::A);
             control.fail = false;
-            if landed {
-                Ok(0)
-            } else {
-                Err(Refusal::ArrayFailed)
-            }
+            told(landed)
         }
         (State::Busy(_), Some(Command::Status)) => Ok(0),
         (State::Busy(_), _) => Err(Refusal::Busy),

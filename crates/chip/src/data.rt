@@ -45,7 +45,7 @@ impl<A: CellArray> Chip<A> {
     {
         self.alive()?;
         let part = self.opening.part;
-        let device = self.opening.device as u16;
+        let device = u16::from(self.opening.device);
         let columns = part.columns();
         let erased = codes::erased_code::<A::Stored>();
         let status = self.control.status();
@@ -109,9 +109,10 @@ impl<A: CellArray> Chip<A> {
         if !has_row(&self.array, row) {
             return Err(Refusal::Outside);
         }
-        if column as usize >= self.array.columns() {
+        let column = usize::from(column);
+        if column >= self.array.columns() {
             return Err(Refusal::NoColumn);
         }
-        Ok(self.array.code(row as usize, column as usize))
+        Ok(self.array.code(row as usize, column))
     }
 }

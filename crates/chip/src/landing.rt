@@ -6,6 +6,7 @@ ghost use Rattle.rules.specs.Controls.{under};
 ghost use Rattle.chip.specs.Calls.{seen, Called, asks_of};
 ghost use Rattle.chip.specs.Cycles.{Ended, form_ending};
 
+use crate::starts::told;
 use crate::{Chip, codes};
 use arrays::CellArray;
 use records::call::Call;
@@ -90,10 +91,6 @@ impl<A: CellArray> Chip<A> {
         );
         self.control.state = State::Status;
         self.control.fail = !landed;
-        if landed {
-            Ok(0)
-        } else {
-            Err(Refusal::ArrayFailed)
-        }
+        told(landed)
     }
 }

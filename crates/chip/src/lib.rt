@@ -22,6 +22,8 @@ mod landing;
 pub mod laws;
 mod starts;
 
+// Its public calls each say what stays of `array`, `rest` and `opening`, since a caller reads a call by
+// itself.
 #[derive(Drop)]
 pub struct Chip<A> {
     array: A,
@@ -65,11 +67,12 @@ impl<A: CellArray> Chip<A> {
         let cells = <A::Stored as Word>::cells();
         let columns = self.array.columns();
         let blocks = self.array.blocks();
-        let fits = self.opening.fits(columns, blocks, cells as usize);
+        let fits = self.opening.fits(columns, blocks, usize::from(cells));
         if fits { Ok(()) } else { Err(Refusal::Dead) }
     }
 
-    // Whether the chip can be used: 0, or a refusal.
+    // Whether the chip can be used: 0, or a refusal. Every call answers a number, 0 where there is
+    // nothing to tell: a rule of the project.
     pub fn check(&self) -> Result<u16, Refusal>
         ensures { result ≡ unless (is_dead A.Stored.Word.kind self.now.opening (A.meaning self.now.array).holds.shape) Refusal.Dead done }
     {
@@ -77,7 +80,8 @@ impl<A: CellArray> Chip<A> {
         Ok(0)
     }
 
-    // The call of that name.
+    // The call of that name. The seven calls are an enum that is driven into the chip: a rule of the
+    // project.
     fn dispatch(&mut self, call: Call) -> Result<u16, Refusal>
         ensures called { Called A.Stored.Word.kind self.old.opening (seen A.meaning self.old) call result (seen A.meaning self.new) }
         ensures rest { A.rest self.new.array ≡ A.rest self.old.array }

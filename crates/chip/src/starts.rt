@@ -1,7 +1,7 @@
 // What a start looks at, and how it is refused.
-ghost use Rattle.std.specs.Prelude.{◌≡◌, Err, nat_lt};
+ghost use Rattle.std.specs.Prelude.{◌≡◌, not, Err, nat_lt};
 ghost use Rattle.arrays.specs.Meaning.{rows};
-ghost use Rattle.rules.specs.Answering.{is_full};
+ghost use Rattle.rules.specs.Answering.{is_full, unless, done};
 ghost use Rattle.rules.specs.Moving.{rows_for, start_refused};
 
 use arrays::CellArray;
@@ -13,6 +13,7 @@ use rules::state::{Aim, State};
 pub(crate) fn has_row<A: CellArray>(array: &A, row: u32) -> bool
     ensures { result ≡ nat_lt row (rows (A.meaning array.now).holds.shape) }
 {
+    // `as`, since std has no From of u32 for usize
     ((row / 32) as usize) < array.blocks()
 }
 
@@ -31,6 +32,17 @@ pub(crate) fn rows_for(aim: Aim) -> State
         aim,
         taken: 0,
         row: 0,
+    }
+}
+
+// What is told of an operation that has ended: `landed` says whether the array did it.
+pub(crate) fn told(landed: bool) -> Result<u16, Refusal>
+    ensures { result ≡ unless (not landed) Refusal.ArrayFailed done }
+{
+    if landed {
+        Ok(0)
+    } else {
+        Err(Refusal::ArrayFailed)
     }
 }
 

@@ -23,9 +23,10 @@ pub record Broken (s : Records) (e : TraceError) (t : Records) : Type 0 where
   pub some : 0 < length s.rest.now
   pub bad : first s.rest.now ≡ None
   pub done : t.rest.now ≡ []
+  pub same : t.trace.now ≡ s.trace.now
 
 -- what one call of `next` gives, and what is left after it
 abbrev pub Steps : Records → Option (Result (ℕ × Call) TraceError) → Records → Type 0
-Steps s None t = (s.rest.now ≡ []) × (t.rest.now ≡ [])
+Steps s None t = (s.rest.now ≡ []) × (t.rest.now ≡ []) × (t.trace.now ≡ s.trace.now)
 Steps s (Some (Ok (whole, call))) t = Taken s whole call t
 Steps s (Some (Err e)) t = Broken s e t

@@ -9,7 +9,8 @@ pub enum Call {
     Write(u16),
     // a data cycle out
     Read,
-    // the level of the write protect pin: 0 low, 1 high
+    // the level of the write protect pin: 0 low, 1 high; a number, as the trace has it (a rule of the
+    // project): the chip refuses 2 and above
     Protect(u8),
     // wait until the operation under way has ended
     Settle,

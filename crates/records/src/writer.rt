@@ -61,6 +61,7 @@ fn put_record(out: &mut [u8], at: usize, call: Call)
 // Writes the records of the calls into `out`, in order. It stops before the first call that has no
 // record or whose record does not fit, and answers how many calls and how many bytes it wrote. Later
 // bytes stay as they were. What it wrote reads back as the calls that it wrote, and as no others.
+// The pair, and the caller's bytes with a count, are a rule of the project: nothing is allocated.
 pub fn write_trace(calls: &[Call], out: &mut [u8]) -> (usize, usize)
     ensures count { result.0 ≡ how_many calls.now (length out.old) }
     ensures bytes { result.1 ≡ length (joined (take result.0 calls.now)) }

@@ -35,6 +35,8 @@ pub struct Control {
     pub fail: bool,
     // the lock is tight
     pub tight: bool,
+    // at most one open range: an `Option` of its ends is a rule of the project; tight is a fact of its
+    // own beside it
     pub range: Option<OpenRange>,
 }
 
@@ -43,8 +45,9 @@ impl Opening {
     pub fn fits(self, columns: usize, blocks: usize, cells: usize) -> bool
         ensures { result ≡ fits self columns blocks cells }
     {
-        columns == self.part.columns() as usize
-            && cells == self.part.cells() as usize
+        columns == usize::from(self.part.columns())
+            && cells == usize::from(self.part.cells())
+            // `as`, since std has no From of u32 for usize
             && (1..=self.part.most_blocks() as usize).contains(&blocks)
             && (1..16).contains(&self.limit)
     }

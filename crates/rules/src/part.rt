@@ -26,6 +26,7 @@ pub enum Pointer {
     C,
 }
 
+// Its tables have one shape and different meanings: as one table they would be no plainer.
 impl Part {
     pub fn name(self) -> &'static str
         ensures { result.now ≡ part_name self }
@@ -108,10 +109,10 @@ impl Part {
         ensures { result ≡ start_column self pointer byte }
     {
         match (pointer, self) {
-            (Pointer::A, _) => byte as u16,
-            (Pointer::B, _) => 256 + byte as u16,
-            (Pointer::C, Part::K9K1208 | Part::K9F2808) => 512 + (byte % 16) as u16,
-            (Pointer::C, Part::K9K1216) => 256 + (byte % 8) as u16,
+            (Pointer::A, _) => u16::from(byte),
+            (Pointer::B, _) => 256 + u16::from(byte),
+            (Pointer::C, Part::K9K1208 | Part::K9F2808) => 512 + u16::from(byte % 16),
+            (Pointer::C, Part::K9K1216) => 256 + u16::from(byte % 8),
         }
     }
 
@@ -119,7 +120,7 @@ impl Part {
     pub fn is_last(self, taken: u8) -> bool
         ensures { result ≡ is_last self taken }
     {
-        taken as u16 + 1 >= self.row_cycles() as u16
+        u16::from(taken) + 1 >= u16::from(self.row_cycles())
     }
 
     // The row with one more cycle, after `taken` others that came to `row`.
@@ -131,8 +132,8 @@ impl Part {
             1 => 256,
             _ => 65536,
         };
-        let sum = row as u64 + byte as u64 * place;
-        (sum % self.most_rows() as u64) as u32
+        let sum = u64::from(row) + u64::from(byte) * place;
+        (sum % u64::from(self.most_rows())) as u32
     }
 }
 

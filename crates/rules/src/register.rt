@@ -11,36 +11,15 @@ use words::Word;
 // The places of the register: the columns of the widest part.
 const PLACES: usize = 528;
 
-// A code at each of its places; a part uses as many as it has columns.
+// A code at each of its places; a part uses as many as it has columns. A fixed array in a plain
+// struct is a rule of the project.
 #[derive(Drop)]
 pub struct PageRegister {
     codes: [u16; PLACES],
 }
 
-// Puts a page of an array over the codes, one pass from the first place to the last.
-fn fetch_codes<A: CellArray>(codes: &mut [u16; PLACES], array: &A, part: Part, row: u32)
-    ensures { codes.new ≡ page_of part A.Stored.Word.kind.erased ((A.meaning array.now).holds.code row) }
-{
-    let columns = part.columns() as usize;
-    let erased = A::Stored::erased().to_code();
-    for (column, code) in codes.iter_mut().enumerate() {
-        *code = if column < columns {
-            array.code(row as usize, column)
-        } else {
-            erased
-        };
-    }
-}
-
-// The torn form of each code.
-fn torn_codes<W: Word>(codes: [u16; PLACES]) -> [u16; PLACES]
-    ensures { result ≡ map W.kind.torn codes }
-{
-    codes.map(|code| W::torn_code(code))
-}
-
 impl PageRegister {
-    // One code at every place.
+    // One code at every place. The rules keep `blank` shut, so the proof is told to open it.
     #[tactic(auto, unfolding(crate::specs::Controls::blank))]
     pub fn erased(code: u16) -> PageRegister
         ensures { result.codes ≡ blank code }
@@ -68,7 +47,10 @@ impl PageRegister {
     pub fn get(&self, column: u16, erased: u16) -> u16
         ensures { result ≡ slice_index_or self.now.codes column erased }
     {
-        self.codes.get(column as usize).copied().unwrap_or(erased)
+        self.codes
+            .get(usize::from(column))
+            .copied()
+            .unwrap_or(erased)
     }
 
     // Puts a code at a column; past the last place nothing changes.
@@ -76,7 +58,7 @@ impl PageRegister {
         ensures { self.new.codes ≡ slice_set self.old.codes column code }
     {
         // by index: after a slice's `get_mut` a proof knows the length and no element
-        let column = column as usize;
+        let column = usize::from(column);
         if column < PLACES {
             self.codes[column] = code;
         }
@@ -87,7 +69,7 @@ impl PageRegister {
         ensures value { result.now ≡ take (columns part) self.now.codes }
         ensures length { length result.now ≡ columns part }
     {
-        &self.codes[..part.columns() as usize]
+        &self.codes[..usize::from(part.columns())]
     }
 
     // The register with the torn form of each code.
@@ -95,14 +77,24 @@ impl PageRegister {
         ensures { result.codes ≡ map W.kind.torn self.now.codes }
     {
         PageRegister {
-            codes: torn_codes::<W>(self.codes),
+            codes: self.codes.map(|code| W::torn_code(code)),
         }
     }
 
-    // A page of an array: the row's codes at the part's columns, and the erased code at the places beyond.
+    // A page of an array: the row's codes at the part's columns, and the erased code at the places
+    // beyond; one pass from the first place to the last.
     pub fn fetch<A: CellArray>(&mut self, array: &A, part: Part, row: u32)
         ensures { self.new.codes ≡ page_of part A.Stored.Word.kind.erased ((A.meaning array.now).holds.code row) }
     {
-        fetch_codes(&mut self.codes, array, part, row);
+        let columns = usize::from(part.columns());
+        let erased = A::Stored::erased().to_code();
+        let codes = &mut self.codes;
+        for (column, code) in codes.iter_mut().enumerate() {
+            *code = if column < columns {
+                array.code(row as usize, column)
+            } else {
+                erased
+            };
+        }
     }
 }

@@ -40,7 +40,8 @@ pub enum Aim {
 pub enum State {
     // a column cycle is next
     Column(Purpose),
-    // a row cycle is next: how many were taken, and the row that they come to
+    // a row cycle is next: how many were taken, and the row that they come to. `taken` counts, as a
+    // column does: the rules say `taken + 1`, and names for the numbers would be no plainer
     Row { aim: Aim, taken: u8, row: u32 },
     // a page is read out: its row, and the column that is read next
     PageOut { row: u32, next: u16 },
@@ -54,7 +55,8 @@ pub enum State {
     Status,
     // the address cycle of 90h is next
     IdAddress,
-    // read gives the maker's and the device code: which is next
+    // read gives the maker's and the device code: which is next. It counts, as a column does: names
+    // for three numbers and their successors would be no plainer
     Id { next: u8 },
     // read gives the lock code of a block
     LockCode { block: u32 },

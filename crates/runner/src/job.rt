@@ -39,6 +39,7 @@ fn run_flat<W: Word>(
 }
 
 // Erases the memory for the columns of the part, lays a flat array over it, opens a chip on that, runs the trace, and lets both go.
+// The five parameters come one by one, since the contract says what `words.new`, `counts.new` and `results.new` are.
 pub fn run_on_memory<W: Word>(
     opening: Opening,
     words: &mut [W],
@@ -48,7 +49,7 @@ pub fn run_on_memory<W: Word>(
 ) -> (usize, usize)
     ensures { RanNew W.kind opening (map W.code words.old) counts.old trace.now results.old result.0 result.1 results.new (map W.code words.new) counts.new }
 {
-    let columns = opening.part.columns() as usize;
+    let columns = usize::from(opening.part.columns());
     flat::erase(words, counts, columns);
     let mut array = FlatArray {
         words,

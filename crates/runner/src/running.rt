@@ -30,7 +30,7 @@ fn stop_at_bad(trace: &[u8], rest: &[u8], results: &mut [u8], written: usize) ->
 }
 
 // Plays the records of a trace one after another, until the trace ends, a record is bad, or no room is left for one more result.
-// How many bytes of the trace were used, and how many result bytes written.
+// How many bytes of the trace were used, and how many result bytes written: the pair is a rule of the project.
 pub fn run<A: CellArray>(chip: &mut Chip<A>, trace: &[u8], results: &mut [u8]) -> (usize, usize)
     ensures ran { Ran A.Stored.Word.kind chip.old.opening (seen A.meaning chip.old) trace.now results.old result.0 result.1 results.new (seen A.meaning chip.new) }
     ensures accepted { AcceptedIsPlayed A.Stored.Word.kind chip.old.opening (seen A.meaning chip.old) trace.now results.old result.0 result.1 results.new (seen A.meaning chip.new) }
@@ -39,6 +39,8 @@ pub fn run<A: CellArray>(chip: &mut Chip<A>, trace: &[u8], results: &mut [u8]) -
 {
     let mut left = trace;
     let mut written = 0;
+    // it looks for room for a result before it takes a record, and says where it stopped, so `Records`
+    // would not serve; no index is counted
     while goes_on(left, results.len() - written) {
         let Some((call, next)) = first_record(left) else {
             return stop_at_bad(trace, left, results, written);

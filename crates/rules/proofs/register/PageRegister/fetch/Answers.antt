@@ -1,6 +1,6 @@
 use Rattle.std.proofs.Common.{arith}
 use Rattle.rules.proofs.Fetched.{page_is}
-use Rattle.rules.proofs.register.fetch_codes.Goals as goal
+use Rattle.rules.proofs.register.PageRegister.fetch.Goals as goal
 
 pub returns : goal.returns
 returns g c =

@@ -1,6 +1,6 @@
 use Rattle.std.proofs.Common.{◌≡◌, ℕ, ◌<◌, cond, nat_lt, length, get_or}
 use Rattle.rules.specs.Parts.{columns}
-use Rattle.rules.proofs.register.fetch_codes.Given as goal
+use Rattle.rules.proofs.register.PageRegister.fetch.Given as goal
 
 abbrev pub invariant-loop-column : goal.invariant-loop-column
 invariant-loop-column g l =
