@@ -13,7 +13,7 @@ pub struct Case {
 
 impl Case {
     pub(crate) fn new(heap: Global, title: &'static str) -> Case
-        ensures title { result.title ≡ title }
+        ensures title { result.title.now ≡ title.now }
         ensures steps { result.steps.items ≡ [] }
     {
         Case {
