@@ -18,6 +18,14 @@ pub struct PageRegister {
     codes: [u16; PLACES],
 }
 
+// The torn form of each code. By itself, since its proof is written out: written in the method, it would
+// meet a wrong method before any fact does.
+fn torn_codes<W: Word>(codes: [u16; PLACES]) -> [u16; PLACES]
+    ensures { result ≡ map W.kind.torn codes }
+{
+    codes.map(|code| W::torn_code(code))
+}
+
 impl PageRegister {
     // One code at every place. The rules keep `blank` shut, so the proof is told to open it.
     #[tactic(auto, unfolding(crate::specs::Controls::blank))]
@@ -77,7 +85,7 @@ impl PageRegister {
         ensures { result.codes ≡ map W.kind.torn self.now.codes }
     {
         PageRegister {
-            codes: self.codes.map(|code| W::torn_code(code)),
+            codes: torn_codes::<W>(self.codes),
         }
     }
 

@@ -1,12 +1,12 @@
 use Rattle.std.proofs.Common.{◌≡◌, ℕ, length, map, get_or, sym, ◌∙◌, arith, rules}
 use Rattle.std.proofs.lemmas.List.{ext_get_or, get_or-map, length-map}
-use Rattle.rules.proofs.register.PageRegister.torn.Goals as goal
+use Rattle.rules.proofs.register.torn_codes.Goals as goal
 
 pub returns : goal.returns
 returns g c =
     let items = c.map.ensures.items in
     let t : ℕ → ℕ = g.W.Word.kind.torn in
-    let codes = c.args.self.now.codes in
+    let codes = c.args.codes in
     let long : length codes ≡ 528 = search rules in
     let same : length c.map.result ≡ length codes = items.long ∙ sym long in
     ext_get_or 0 c.map.result (map t codes) (same ∙ sym (length-map codes t))
