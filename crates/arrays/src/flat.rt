@@ -18,7 +18,8 @@ pub struct FlatArray<'a, W> {
     pub columns: usize,
 }
 
-// Erases every word of the shape that the memory has room for, and zeroes the counts of its rows.
+// Erases every word of the shape that the memory has room for, and zeroes the counts of its rows. The three come one by one, since a
+// literal of them is laid over the memory only when it is erased.
 pub fn erase<W: Word>(words: &mut [W], counts: &mut [u8], columns: usize)
     ensures erases { Put (map W.code words.old) (map W.code words.new) 0 (flat_places columns (map W.code words.old) counts.old) W.kind.erased }
     ensures zeroes { Put counts.old counts.new 0 (flat_rows columns (map W.code words.old) counts.old) 0 }

@@ -19,15 +19,13 @@ pub struct Expected {
 
 // The call is taken, and has nothing to tell.
 pub fn taken(call: Call) -> Expected
-    ensures call { result.call ≡ call }
-    ensures answer { result.answer ≡ Ok 0 }
+    ensures { result ≡ record { call = call; answer = Ok 0 } }
 {
     gives(call, 0)
 }
 
 pub fn gives(call: Call, value: u16) -> Expected
-    ensures call { result.call ≡ call }
-    ensures answer { result.answer ≡ Ok value }
+    ensures { result ≡ record { call = call; answer = Ok value } }
 {
     Expected {
         call,
@@ -36,8 +34,7 @@ pub fn gives(call: Call, value: u16) -> Expected
 }
 
 pub fn refuses(call: Call, refusal: Refusal) -> Expected
-    ensures call { result.call ≡ call }
-    ensures answer { result.answer ≡ Err refusal }
+    ensures { result ≡ record { call = call; answer = Err refusal } }
 {
     Expected {
         call,

@@ -22,8 +22,8 @@ mod landing;
 pub mod laws;
 mod starts;
 
-// Its public calls each say what stays of `array`, `rest` and `opening`, since a caller reads a call by
-// itself.
+// Its public calls each say what stays of `array`, `rest` and `opening`, since a caller reads a call by itself. It has no model: clauses
+// name the array itself, and what it means, beside the control.
 #[derive(Drop)]
 pub struct Chip<A> {
     array: A,

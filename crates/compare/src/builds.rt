@@ -40,7 +40,7 @@ impl<'a, 't, W: Word> Build<'a, 't, W> {
         ensures beyond { Beyond (columns opening.part) (map W.code self.entry.words.now) self.entry.counts.now (map W.code result.array.words.now) result.array.counts.now }
         ensures new { (seen (λ x. flat W.kind x.columns (map W.code x.words.now) x.counts.now) result) ≡ new_chip W.kind (flat_shape (columns opening.part) (map W.code self.entry.words.now) self.entry.counts.now) }
     {
-        let columns = opening.part.columns() as usize;
+        let columns = usize::from(opening.part.columns());
         Chip::open(opening, FlatArray::new(self.words, self.counts, columns))
     }
 }

@@ -24,7 +24,7 @@ pub struct Pair<'a, A, B> {
 }
 
 impl<'a, A: CellArray, B: CellArray> Pair<'a, A, B> {
-    // Whether the arrays have one code at the place.
+    // Whether the arrays have one code at the place. They may be of different makes, so no derive compares them.
     fn is_same(&self, row: usize, column: usize) -> bool
         ensures { result ≡ ((A.CellArray.meaning self.now.one.now).holds.code row column == (B.CellArray.meaning self.now.other.now).holds.code row column) }
     {
@@ -73,7 +73,7 @@ impl<'a, A: CellArray, B: CellArray> Pair<'a, A, B> {
         ensures count { result ≡ count_apart ((A.CellArray.meaning self.now.one.now).holds.code row) ((B.CellArray.meaning self.now.other.now).holds.code row) columns }
         ensures bound { result ≤ columns }
     {
-        (0..columns as usize)
+        (0..usize::from(columns))
             .filter(|column| !self.is_same(row, *column))
             .count() as u32
     }

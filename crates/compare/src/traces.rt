@@ -22,7 +22,7 @@ fn read_side(heap: Global, trace: &[u8], side: Side) -> Result<Vec<Call>, Compar
 }
 
 // Reads both traces, plays the calls of each on its chip, and answers both verdicts. A trace that is not accepted is refused before anything
-// is played.
+// is played. Each chip stands beside its trace, so that the contract can speak of `one.old` and `one.new`.
 pub fn compare_traces<A: CellArray, B: CellArray<Stored = A::Stored>>(
     heap: Global,
     one: &mut Chip<A>,

@@ -38,7 +38,7 @@ pub fn different<A: CellArray, B: CellArray>(
     let pair = Pair { one, other };
     let columns = settings.part.columns();
     println!(rt; "  the chips are not equal in all cells")?;
-    if let Some(place) = pair.first_difference(settings.blocks, columns as usize) {
+    if let Some(place) = pair.first_difference(settings.blocks, usize::from(columns)) {
         let block = place.row / 32;
         let page = place.row % 32;
         let column = place.column;

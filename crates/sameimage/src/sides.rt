@@ -48,7 +48,7 @@ pub fn compare_sides<W: Word + Clone>(
     other: TraceFile,
 ) -> anyhow::Result<()> {
     let heap = rt.alloc();
-    let columns = settings.part.columns() as usize;
+    let columns = usize::from(settings.part.columns());
     let rows = 32 * settings.blocks as usize;
     let opening = Opening {
         part: settings.part,
