@@ -18,25 +18,20 @@ fn show<A: CellArray>(rt: &HostRuntime, name: &str, array: &A) -> io::Result<()>
     println!(rt; "{name}: {blocks} blocks, {columns} columns")
 }
 
+fn told(done: bool) -> &'static str {
+    if done { "done" } else { "failed" }
+}
+
 // Programs a row, and shows whether it was done, the code in its first column and its count.
 fn program<A: CellArray>(rt: &HostRuntime, array: &mut A, row: usize, code: u16) -> io::Result<()> {
-    let codes = [code; 4];
-    let done = if array.program(row, &codes, false) {
-        "done"
-    } else {
-        "failed"
-    };
+    let done = told(array.program(row, &[code; COLUMNS], false));
     let found = (*array).code(row, 0);
     let count = (*array).count(row);
     println!(rt; "  program row {row} with {code:02X}: {done}; it reads {found:02X}, count {count}")
 }
 
 fn fill<A: CellArray>(rt: &HostRuntime, array: &mut A, block: usize, code: u16) -> io::Result<()> {
-    let done = if array.fill(block, code) {
-        "done"
-    } else {
-        "failed"
-    };
+    let done = told(array.fill(block, code));
     let found = (*array).code(block.saturating_mul(32), 0);
     println!(rt; "  fill block {block} with {code:02X}: {done}; its first row reads {found:02X}")
 }

@@ -9,6 +9,7 @@ use records::writer::write_trace;
 use refusals::Refusal;
 use rules::control::Opening;
 use rules::part::Part;
+use std::alloc::{AllocError, Global};
 use std::io;
 
 // one block of a K9F2808
@@ -22,24 +23,24 @@ const OPENING: Opening = Opening {
     limit: 3,
 };
 
-// Programs two words, one after the other, at the first place of row 0.
-fn two_words(first: u16, second: u16) -> [Call; 14] {
+// Programs a word at the first place of row 0.
+fn program(word: u16) -> [Call; 7] {
     [
         Call::Command(0x80),
         Call::Address(0),
         Call::Address(0),
         Call::Address(0),
-        Call::Write(first),
-        Call::Command(0x10),
-        Call::Settle,
-        Call::Command(0x80),
-        Call::Address(0),
-        Call::Address(0),
-        Call::Address(0),
-        Call::Write(second),
+        Call::Write(word),
         Call::Command(0x10),
         Call::Settle,
     ]
+}
+
+// Programs two words, one after the other, at one place.
+fn two_words(heap: Global, first: u16, second: u16) -> Result<Vec<Call>, AllocError> {
+    let mut calls = Vec::from_slice(heap, &program(first))?;
+    calls.extend_from_slice(&program(second))?;
+    Ok(calls)
 }
 
 // Programs a word, with a settle too early: nothing is under way then.
@@ -129,23 +130,20 @@ fn compare_calls(
 }
 
 fn main(rt: HostRuntime) -> io::Result<()> {
+    let heap = rt.alloc();
+    let build = two_words(heap, 0x0F, 0x3C)?;
     compare_calls(
         &rt,
         "two words at one place, in both orders",
-        &two_words(0x0F, 0x3C),
-        &two_words(0x3C, 0x0F),
+        &build,
+        &two_words(heap, 0x3C, 0x0F)?,
     )?;
-    compare_calls(
-        &rt,
-        "another word",
-        &two_words(0x0F, 0x3C),
-        &two_words(0x0F, 0x3D),
-    )?;
+    compare_calls(&rt, "another word", &build, &two_words(heap, 0x0F, 0x3D)?)?;
     compare_calls(
         &rt,
         "a settle too early",
         &settled_early(0x0F),
-        &two_words(0x0F, 0xFF),
+        &two_words(heap, 0x0F, 0xFF)?,
     )?;
     compare_traces(&rt, "a record that is cut off", b"STCM", b"ST")
 }
