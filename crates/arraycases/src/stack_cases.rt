@@ -84,6 +84,7 @@ fn full(rt: &HostRuntime) -> io::Result<()> {
     let heap = rt.alloc();
     let (mut words, mut counts) = memory(heap, 40)?;
     let mut array = DefectArray::new(FlatArray::new(&mut words, &mut counts, COLUMNS));
+    // over the numbers themselves: there is no list of blocks
     for block in 0..32usize {
         let _ = array.list(block);
     }

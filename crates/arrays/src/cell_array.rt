@@ -36,7 +36,8 @@ pub trait CellArray {
         ensures { result ≡ (meaning self.now).holds.count row };
 
     // Joins one code a column to the row, and counts the program; whether it was done. What is willing after a success is open.
-    // The three come one by one: a stack hands on another row with the same codes, and each array takes them apart at once, so a struct would be no plainer. Whether it was done is a plain yes or no.
+    // The three come one by one: a stack hands on another row with the same codes, and each array takes them apart at once, so a struct would
+    // be no plainer. Whether it was done is a plain yes or no.
     fn program(&mut self, row: usize, codes: &[u16], closes: bool) -> bool
         ensures done { Performs Self.Stored.Word.kind (programs row codes.now closes) (meaning self.old) result (meaning self.new) }
         ensures rest { rest self.new ≡ rest self.old };

@@ -33,7 +33,8 @@ pub fn erase<W: Word>(words: &mut [W], counts: &mut [u8], columns: usize)
 }
 
 impl<'a, W: Word> FlatArray<'a, W> {
-    // A new array over the memory: all that lies in its shape is erased, all else stays.
+    // A new array over the memory: all that lies in its shape is erased, all else stays. The clauses speak of `map W.code words`, since a
+    // slice has no model, and the definitions are over codes.
     pub fn new(words: &'a mut [W], counts: &'a mut [u8], columns: usize) -> Self
         ensures columns { result.columns ≡ columns }
         ensures erases { Put (map W.code words.old) (map W.code result.words.now) 0 (flat_places columns (map W.code words.old) counts.old) W.kind.erased }

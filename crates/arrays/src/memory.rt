@@ -21,6 +21,7 @@ pub(crate) fn room(columns: usize, words: usize, counts: usize) -> usize
 }
 
 // Whether a row lies in so many blocks.
+// One comparison: a public function for it and for the chip's, of another width, would be no plainer.
 pub(crate) fn has_row(blocks: usize, row: usize) -> bool
     ensures { result ≡ nat_lt row (32 * blocks) }
 {
@@ -63,7 +64,8 @@ pub(crate) fn join_row<W: Word>(words: &mut [W], at: usize, codes: &[u16])
     requires lawful { all_lawful W.kind codes.now ≡ true }
     ensures { Joined W.kind (map W.code words.old) (map W.code words.new) at codes.now (length codes.now) }
 {
-    // over the codes alone: with `words[at..].iter_mut().zip(codes)`, here or in a function of its own, the goal `returns` stays open, since of the words after that loop a proof knows how many there are and no more
+    // over the codes alone: with `words[at..].iter_mut().zip(codes)`, here or in a function of its own, the goal `returns` stays open, since of
+    // the words after that loop a proof knows how many there are and no more
     for (i, code) in codes.iter().enumerate() {
         words[at + i] = joined(words[at + i], *code);
     }
@@ -79,6 +81,7 @@ pub(crate) fn count_program(counts: &mut [u8], row: usize, closes: bool)
 }
 
 // Puts a value at each of n places.
+// The places, the number and the value come one by one: a struct of them would be taken apart at once.
 fn put<T: Copy>(places: &mut [T], at: usize, n: usize, value: T)
     requires { at + n ≤ length places.old }
     ensures { places.new ≡ with_run places.old at n value }

@@ -24,7 +24,7 @@ pub const K9F2808: Opening = Opening {
     limit: 3,
 };
 
-// Plays a case on a new chip of two blocks.
+// Plays a case on a new chip of two blocks. Each program has its own memory and opening: a library for two lines is no plainer.
 pub(crate) fn play_on_new<W: Word + Clone>(
     rt: &HostRuntime,
     opening: Opening,

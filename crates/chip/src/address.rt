@@ -13,7 +13,7 @@ use refusals::Refusal;
 use rules::control::{Control, OpenRange, Opening};
 use rules::state::{Aim, Purpose, State, Work};
 
-// What the row cycles after a column cycle are for.
+// What the row cycles after a column cycle are for: of two values, so no `From`.
 fn aim_of(column: u16, purpose: Purpose) -> Aim
     ensures { result ≡ aim_of column purpose }
 {

@@ -17,7 +17,7 @@ use rules::part::Part;
 use rules::register::PageRegister;
 use rules::state::{State, Work};
 
-// How what is under way ends.
+// How what is under way ends: one of two, so a closure would be no plainer.
 #[derive(Clone, Copy)]
 enum Form {
     Whole,

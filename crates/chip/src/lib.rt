@@ -98,7 +98,7 @@ impl<A: CellArray> Chip<A> {
         }
     }
 
-    // Plays a call: one step of the rules.
+    // Plays a call: one step of the rules. Apart from `dispatch`, from whose promise this one follows.
     pub fn play(&mut self, call: Call) -> Result<u16, Refusal>
         ensures step { Step A.Stored.Word.kind self.old.opening (seen A.meaning self.old) (event A.Stored.Word.kind self.old.opening (seen A.meaning self.old) call result) (seen A.meaning self.new) }
         ensures rest { A.rest self.new.array ≡ A.rest self.old.array }

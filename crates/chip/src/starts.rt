@@ -9,7 +9,7 @@ use refusals::Refusal;
 use rules::control::{Control, Opening};
 use rules::state::{Aim, State};
 
-// Whether the array has the row.
+// Whether the array has the row: one comparison, as `arrays` has for its own memory.
 pub(crate) fn has_row<A: CellArray>(array: &A, row: u32) -> bool
     ensures { result ≡ nat_lt row (rows (A.meaning array.now).holds.shape) }
 {

@@ -25,7 +25,7 @@ const OPENING: Opening = Opening {
     limit: 3,
 };
 
-// Runs the trace on a new chip in this memory; how many result bytes there are.
+// Runs the trace on a new chip in this memory; how many result bytes there are. The four come one by one, as `run_on_memory` takes them.
 fn run_trace(words: &mut [u8], counts: &mut [u8], trace: &[u8], results: &mut [u8]) -> usize
     requires words_len { length words.old ≡ 33792 }
     requires counts_len { length counts.old ≡ 64 }

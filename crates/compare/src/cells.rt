@@ -95,7 +95,8 @@ impl<'a, A: CellArray, B: CellArray> Pair<'a, A, B> {
         self.apart_in_rows(first..first + 32, columns)
     }
 
-    // Whether the arrays are equal in all cells within so many blocks and columns.
+    // Whether the arrays are equal in all cells within so many blocks and columns. These are two parameters, as the columns are of another
+    // width elsewhere.
     pub fn same_cells(&self, blocks: u32, columns: usize) -> bool
         ensures { Decides result (SameCells record { blocks = blocks; columns = columns } (A.CellArray.meaning self.now.one.now).holds (B.CellArray.meaning self.now.other.now).holds) }
     {

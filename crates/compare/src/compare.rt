@@ -23,7 +23,8 @@ pub struct Comparison {
     pub cells_equal: bool,
 }
 
-// Whether two arrays, the first of so many blocks, are equal in all cells: arrays of different shapes are not.
+// Whether two arrays, the first of so many blocks, are equal in all cells: arrays of different shapes are not. Of two makes, so no derive
+// compares them.
 fn same_arrays<A: CellArray, B: CellArray>(one: &A, other: &B, blocks: u32) -> bool
     requires { blocks ≡ (A.CellArray.meaning one.now).holds.shape.blocks }
     ensures { Decides result (EqualCells (A.CellArray.meaning one.now).holds (B.CellArray.meaning other.now).holds) }

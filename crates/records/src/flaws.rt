@@ -39,7 +39,7 @@ fn is_known(first: u8, second: u8) -> bool
     )
 }
 
-// Why no record begins these bytes: asked where a trace is bad.
+// Why no record begins these bytes: asked where a trace is bad. It reads bytes, and converts no value.
 pub fn cause_of(trace: &[u8]) -> Flaw
     ensures { result ≡ cause trace.now }
 {

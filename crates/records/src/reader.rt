@@ -10,6 +10,7 @@ use crate::error::TraceError;
 use crate::iter::Records;
 use std::alloc::Global;
 
+// Apart from `first_record`, which promises more of it: the second promise follows from the first.
 // Matches a mark, its payload and the rest of the trace.
 fn match_record(trace: &[u8]) -> Option<(Call, &[u8])>
     ensures { Matched trace.now (option_map (λ p. (p.0, p.1.now)) result) }

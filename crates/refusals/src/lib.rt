@@ -50,6 +50,7 @@ impl Refusal {
         ensures high { result ≤ 15 }
         ensures own { (other : Refusal) → number other ≡ result → other ≡ self }
     {
+        // `as`: the number of a variant
         self as u8
     }
 }

@@ -35,8 +35,8 @@ pub struct Control {
     pub fail: bool,
     // the lock is tight
     pub tight: bool,
-    // at most one open range: an `Option` of its ends is a rule of the project; tight is a fact of its
-    // own beside it
+    // At most one open range: an `Option` of its ends is a rule of the project. With `tight` in one enum with
+    // it, the law that a tight lock is closed could not be said.
     pub range: Option<OpenRange>,
 }
 

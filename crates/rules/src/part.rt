@@ -179,6 +179,7 @@ impl fmt::Display for UnknownPart {
 impl Error for UnknownPart {}
 
 impl Pointer {
+    // of one shape with the tables above, and of another meaning
     // Area B holds for one read, load or erase.
     pub fn fallen_back(self) -> Pointer
         ensures { result ≡ fallen_back self }

@@ -48,6 +48,7 @@ impl PageRegister {
         ensures value { result ≡ places }
         ensures length { length self.now.codes ≡ result }
     {
+        // `as`, since the proof shows that nothing is lost
         self.codes.len() as u16
     }
 
@@ -99,6 +100,7 @@ impl PageRegister {
         let codes = &mut self.codes;
         for (column, code) in codes.iter_mut().enumerate() {
             *code = if column < columns {
+                // `as`, since std has no From of u32 for usize
                 array.code(row as usize, column)
             } else {
                 erased

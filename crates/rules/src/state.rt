@@ -6,6 +6,7 @@ ghost use Rattle.rules.specs.Controls.{is_busy};
 #[derive(Clone, Copy)]
 pub enum Work {
     // the register into the row; a copy-back closes the page
+    // whether it closes is a fact of its own: no value stands beside it
     Program { row: u32, closes: bool },
     Erase { block: u32 },
 }
@@ -45,7 +46,8 @@ pub enum State {
     Row { aim: Aim, taken: u8, row: u32 },
     // a page is read out: its row, and the column that is read next
     PageOut { row: u32, next: u16 },
-    // a page is loaded: its row, the column that is written next, and whether a word was written
+    // a page is loaded: its row, the column that is written next, and whether a word was written, a fact of
+    // its own beside which no value stands
     Load { row: u32, next: u16, written: bool },
     // the row of an erase is known
     EraseReady { row: u32 },

@@ -24,6 +24,7 @@ struct Case {
     trace: Vec<u8>,
 }
 
+// What a run answers: two numbers beside the bytes, which is a rule of the project.
 #[derive(Drop)]
 struct Played {
     used: usize,

@@ -9,7 +9,7 @@ use chip::Chip;
 use rules::control::Opening;
 use words::Word;
 
-// Opens a chip over a lent array, and runs the trace.
+// Opens a chip over a lent array, and runs the trace. Its parameters come one by one, as those of `run_on_memory`.
 fn run_lent<A: CellArray>(
     opening: Opening,
     array: &mut A,

@@ -48,6 +48,7 @@ pub fn different<A: CellArray, B: CellArray>(
             "  they differ first at block {block}, page {page}, column {column}: {code:02X}h and {other_code:02X}h"
         )?;
     }
+    // over the numbers themselves: there is no list of blocks
     for block in 0..settings.blocks {
         let apart = pair.apart_in_block(block, columns);
         if apart > 0 {

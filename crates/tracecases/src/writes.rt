@@ -22,6 +22,7 @@ fn write_case(rt: &HostRuntime, calls: &[Call], out: &mut [u8]) -> io::Result<()
 
 pub fn rooms(rt: &HostRuntime) -> io::Result<()> {
     let calls = [Call::Read, Call::Write(0x1234), Call::Settle];
+    // over the numbers themselves: there is no list of rooms
     for room in 0..=9 {
         let mut bytes = [0u8; 9];
         write_case(rt, &calls, &mut bytes[0..room])?;

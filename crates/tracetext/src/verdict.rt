@@ -36,6 +36,7 @@ pub fn judge(heap: Global, trace: &[u8]) -> Result<Accepted, NotAccepted>
             let bytes = trace.len();
             Ok(Accepted { records, bytes })
         }
+        // as `tracecases` asks, too: a library for these two lines is no plainer
         Err(TraceError::BadRecord { whole }) => {
             let flaw = cause_of(&trace[whole..]);
             Err(NotAccepted::BadRecord { whole, flaw })

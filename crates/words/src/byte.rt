@@ -7,7 +7,8 @@ ghost use Rattle.words.specs.BinaryLaws.{binary_laws, cut_lawful};
 use crate::word::Word;
 use refusals::Refusal;
 
-// An impl for each of the two numbers: one for both, over a trait of numbers whose bits are the cells, was tried and proves, but each number still writes five of these bodies for that trait, and it is longer.
+// An impl for each of the two numbers: one for both, over a trait of numbers whose bits are the cells, was tried and proves, but each number
+// still writes five of these bodies for that trait, and it is longer.
 impl Word for u8 {
     ghost kind = { byte_kind };
 
@@ -47,6 +48,7 @@ impl Word for u8 {
     }
 
     fn cells() -> u8 {
+        // `as`, since the proof shows that nothing is lost
         u8::BITS as u8
     }
 }

@@ -47,6 +47,7 @@ impl Word for u16 {
     }
 
     fn cells() -> u8 {
+        // `as`, since the proof shows that nothing is lost
         u16::BITS as u8
     }
 }
