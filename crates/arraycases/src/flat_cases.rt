@@ -45,9 +45,11 @@ fn probe(words: &mut [u8], counts: &mut [u8], columns: usize, page: &[u16]) -> F
     }
 }
 
-// How many bytes of a slice are still as they were.
+// How many bytes of a slice are still as they were. The sum cannot wrap: a slice is shorter than that.
 fn untouched(bytes: &[u8]) -> usize {
-    bytes.iter().filter(|b| **b == OLD).count()
+    bytes
+        .iter()
+        .fold(0usize, |n, b| n.wrapping_add(usize::from(*b == OLD)))
 }
 
 fn yes(b: bool) -> &'static str {

@@ -1,60 +1,57 @@
 // The defect array: any array, with up to 32 blocks listed that can be neither programmed nor filled.
-ghost use Rattle.std.specs.Prelude.{◌≡◌, ℕ, []};
+ghost use Rattle.std.specs.Prelude.{◌≡◌, ℕ, [], take};
 ghost use Rattle.words.specs.Kind.{Kind};
 ghost use Rattle.arrays.specs.Meaning.{Meaning, MeaningLaws, Performs};
 ghost use Rattle.arrays.specs.Defect.{defect, listed, listing, list_after};
 
 use crate::cell_array::CellArray;
-use arrayvec::ArrayVec;
+use crate::defect_list::DefectList;
 use refusals::Refusal;
 use words::Word;
-
-// The most blocks that may be listed.
-const MOST_LISTED: usize = 32;
 
 #[derive(Drop)]
 pub struct DefectArray<A> {
     below: A,
-    list: ArrayVec<usize, MOST_LISTED>,
+    list: DefectList,
 }
 
 impl<A: CellArray> DefectArray<A> {
     // No block is listed yet.
     pub fn new(below: A) -> Self
         ensures below { result.below ≡ below }
-        ensures list { result.list.items ≡ [] }
-        ensures meaning { defect (A.meaning result.below) result.list.items ≡ defect (A.meaning below) [] }
+        ensures list { take result.list.used result.list.blocks ≡ [] }
+        ensures meaning { defect (A.meaning result.below) (take result.list.used result.list.blocks) ≡ defect (A.meaning below) [] }
     {
         DefectArray {
             below,
-            list: ArrayVec::new(),
+            list: DefectList::new(),
         }
     }
 
     // The blocks that are listed, in the order in which they came.
     pub fn defects(&self) -> &[usize]
-        ensures { result.now ≡ self.now.list.items }
+        ensures { result.now ≡ take self.now.list.used self.now.list.blocks }
     {
         self.list.as_slice()
     }
 
     fn is_defective(&self, block: usize) -> bool
-        ensures { result ≡ listed self.now.list.items block }
+        ensures { result ≡ listed (take self.now.list.used self.now.list.blocks) block }
     {
-        self.list.contains(&block)
+        self.list.contains(block)
     }
 
     // Lists a block. One outside the array is refused; one that is listed already is taken and changes nothing; then a full list refuses.
     pub fn list(&mut self, block: usize) -> Result<u16, Refusal>
-        ensures answer { result ≡ listing (A.meaning self.old.below).holds.shape.blocks self.old.list.items block }
-        ensures after { self.new.list.items ≡ list_after (A.meaning self.old.below).holds.shape.blocks self.old.list.items block }
+        ensures answer { result ≡ listing (A.meaning self.old.below).holds.shape.blocks (take self.old.list.used self.old.list.blocks) block }
+        ensures after { take self.new.list.used self.new.list.blocks ≡ list_after (A.meaning self.old.below).holds.shape.blocks (take self.old.list.used self.old.list.blocks) block }
         ensures below { self.new.below ≡ self.old.below }
     {
         if block >= self.below.blocks() {
             return Err(Refusal::Outside);
         }
         if !self.is_defective(block) {
-            self.list.try_push(block).map_err(|_| Refusal::ListFull)?;
+            self.list.try_push(block)?;
         }
         // a number, 0, as every call answers: a rule of the project
         Ok(0)
@@ -64,7 +61,7 @@ impl<A: CellArray> DefectArray<A> {
 impl<A: CellArray> CellArray for DefectArray<A> {
     type Stored = A::Stored;
 
-    ghost meaning = { λ x. defect (A.CellArray.meaning x.below) x.list.items };
+    ghost meaning = { λ x. defect (A.CellArray.meaning x.below) (take x.list.used x.list.blocks) };
 
     ghost rest = { λ x. A.CellArray.rest x.below };
 

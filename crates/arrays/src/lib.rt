@@ -3,6 +3,7 @@
 
 pub mod cell_array;
 pub mod defect;
+mod defect_list;
 pub mod flat;
 pub mod job;
 pub mod lent;

@@ -40,17 +40,13 @@ fn busy(heap: Global) -> Result<Case, AllocError> {
     Ok(case)
 }
 
+// Each case is made when its turn comes, so that no memory is asked for a later one before an earlier one is shown.
 pub fn run(rt: &HostRuntime) -> anyhow::Result<()> {
     let heap = rt.alloc();
-    let cases = [
-        both(heap, "0Fh, then 3Ch programmed at one place", 0x0F, 0x3C)?,
-        both(heap, "3Ch, then 0Fh programmed at one place", 0x3C, 0x0F)?,
-        row_cycles(heap)?,
-        limit(heap)?,
-        busy(heap)?,
-    ];
-    for case in &cases {
-        play_on_new::<u8>(rt, K9F2808, case)?;
-    }
-    Ok(())
+    let play = |case: Case| play_on_new::<u8>(rt, K9F2808, &case);
+    play(both(heap, "0Fh, then 3Ch programmed at one place", 0x0F, 0x3C)?)?;
+    play(both(heap, "3Ch, then 0Fh programmed at one place", 0x3C, 0x0F)?)?;
+    play(row_cycles(heap)?)?;
+    play(limit(heap)?)?;
+    play(busy(heap)?)
 }

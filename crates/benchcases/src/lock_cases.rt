@@ -63,17 +63,13 @@ fn other_plane(heap: Global) -> Result<Case, AllocError> {
     Ok(case)
 }
 
+// Each case is made when its turn comes, as those of bytes are.
 pub fn run(rt: &HostRuntime) -> anyhow::Result<()> {
     let heap = rt.alloc();
-    let cases = [
-        last_column(heap)?,
-        last_row(heap)?,
-        opens(heap)?,
-        empty_range(heap)?,
-        other_plane(heap)?,
-    ];
-    for case in &cases {
-        play_on_new::<u8>(rt, K9K1208, case)?;
-    }
-    Ok(())
+    let play = |case: Case| play_on_new::<u8>(rt, K9K1208, &case);
+    play(last_column(heap)?)?;
+    play(last_row(heap)?)?;
+    play(opens(heap)?)?;
+    play(empty_range(heap)?)?;
+    play(other_plane(heap)?)
 }

@@ -9,7 +9,6 @@ use records::writer::write_trace;
 use refusals::Refusal;
 use rules::control::Opening;
 use rules::part::Part;
-use std::alloc::{AllocError, Global};
 use std::io;
 
 // one block of a K9F2808
@@ -36,11 +35,11 @@ fn program(word: u16) -> [Call; 7] {
     ]
 }
 
-// Programs two words, one after the other, at one place.
-fn two_words(heap: Global, first: u16, second: u16) -> Result<Vec<Call>, AllocError> {
-    let mut calls = Vec::from_slice(heap, &program(first))?;
-    calls.extend_from_slice(&program(second))?;
-    Ok(calls)
+// Programs two words, one after the other, at one place. In an array, so that there is nothing to allocate.
+fn two_words(first: u16, second: u16) -> [Call; 14] {
+    let [a, b, c, d, e, f, g] = program(first);
+    let [h, i, j, k, l, m, n] = program(second);
+    [a, b, c, d, e, f, g, h, i, j, k, l, m, n]
 }
 
 // Programs a word, with a settle too early: nothing is under way then.
@@ -70,29 +69,19 @@ fn side(rt: &HostRuntime, name: &str, answers: &[Result<u16, Refusal>]) -> io::R
     }
 }
 
-fn compare_traces(
+// The memory of each side is lent for a time of its own.
+fn show(
     rt: &HostRuntime,
-    title: &str,
+    words: &mut [u8],
+    counts: &mut [u8],
     trace: &[u8],
+    other_words: &mut [u8],
+    other_counts: &mut [u8],
     other_trace: &[u8],
 ) -> io::Result<()> {
-    let heap = rt.alloc();
-    let mut words = vec![in heap; 0u8; WORDS]?;
-    let mut counts = vec![in heap; 0u8; COUNTS]?;
-    let mut other_words = vec![in heap; 0u8; WORDS]?;
-    let mut other_counts = vec![in heap; 0u8; COUNTS]?;
-    println!(rt; "{title}")?;
-    let one = Build {
-        words: &mut words,
-        counts: &mut counts,
-        trace,
-    };
-    let other = Build {
-        words: &mut other_words,
-        counts: &mut other_counts,
-        trace: other_trace,
-    };
-    match compare_builds(heap, OPENING, one, other) {
+    let one = Build::new(words, counts, trace);
+    let other = Build::new(other_words, other_counts, other_trace);
+    match compare_builds(rt.alloc(), OPENING, one, other) {
         Err(error) => match error.refusal() {
             None => println!(rt; "  no memory"),
             Some(why) => {
@@ -113,6 +102,29 @@ fn compare_traces(
     }
 }
 
+fn compare_traces(
+    rt: &HostRuntime,
+    title: &str,
+    trace: &[u8],
+    other_trace: &[u8],
+) -> io::Result<()> {
+    let heap = rt.alloc();
+    let mut words = vec![in heap; 0u8; WORDS]?;
+    let mut counts = vec![in heap; 0u8; COUNTS]?;
+    let mut other_words = vec![in heap; 0u8; WORDS]?;
+    let mut other_counts = vec![in heap; 0u8; COUNTS]?;
+    println!(rt; "{title}")?;
+    show(
+        rt,
+        &mut words,
+        &mut counts,
+        trace,
+        &mut other_words,
+        &mut other_counts,
+        other_trace,
+    )
+}
+
 fn compare_calls(
     rt: &HostRuntime,
     title: &str,
@@ -130,20 +142,19 @@ fn compare_calls(
 }
 
 fn main(rt: HostRuntime) -> io::Result<()> {
-    let heap = rt.alloc();
-    let build = two_words(heap, 0x0F, 0x3C)?;
+    let build = two_words(0x0F, 0x3C);
     compare_calls(
         &rt,
         "two words at one place, in both orders",
         &build,
-        &two_words(heap, 0x3C, 0x0F)?,
+        &two_words(0x3C, 0x0F),
     )?;
-    compare_calls(&rt, "another word", &build, &two_words(heap, 0x0F, 0x3D)?)?;
+    compare_calls(&rt, "another word", &build, &two_words(0x0F, 0x3D))?;
     compare_calls(
         &rt,
         "a settle too early",
         &settled_early(0x0F),
-        &two_words(heap, 0x0F, 0xFF)?,
+        &two_words(0x0F, 0xFF),
     )?;
     compare_traces(&rt, "a record that is cut off", b"STCM", b"ST")
 }

@@ -1,18 +1,25 @@
 -- Counting places and answers along a list. Assumes nothing.
-use Rattle.std.proofs.Common.{◌≡◌, ℕ, zero, suc, ◌+◌, ◌*◌, ◌<◌, ◌≤◌, ◌≢◌, Bool, true, false, cond, not, eqb, sum, filter, map, List, [], ◌∷◌, ◌++◌, length, Some, None, Option, MatchOption, is_ok, Ok, Err, refl, ap, ◌∙◌, subst, add-one, zero-add, arith, length-append}
+use Rattle.std.proofs.Common.{◌≡◌, ℕ, zero, suc, ◌+◌, ◌*◌, ◌<◌, ◌≤◌, ◌≢◌, Bool, true, false, cond, not, eqb, sum, map, List, [], ◌∷◌, length, Some, None, Option, MatchOption, is_ok, Ok, Err, refl, ap, ◌∙◌, subst, add-one, zero-add, arith}
+use Rattle.std.specs.Int.{from_bool}
 use Rattle.std.specs.List.{range_with_len}
-use Rattle.std.proofs.lemmas.List.{map-id}
-use Rattle.std.proofs.lemmas.List.FromFn.{sum_by-map-range_with_len_more, filter_of_map_range_with_len_more}
+use Rattle.std.proofs.lemmas.List.Sums.{sum_by-cons}
+use Rattle.std.proofs.lemmas.List.FromFn.{sum_by-map-range_with_len_more}
 use Rattle.std.proofs.Math.Nat.{mul-le-mul_right}
 use Rattle.arrays.specs.Meaning.{Contents}
 use Rattle.rules.specs.Answering.{Answer}
 use Rattle.compare.specs.Differences.{FirstApart, count_apart, count_rows}
 use Rattle.compare.specs.Played.{count_taken, count_refused}
 
-pub taken_filtered : (xs : List Answer) → length (filter is_ok xs) ≡ count_taken xs
-taken_filtered [] = refl
-taken_filtered (Ok v ∷ xs) = let h = taken_filtered xs in omega arith
-taken_filtered (Err w ∷ xs) = taken_filtered xs
+pub taken_summed : (xs : List Answer) → sum (map (λ a. from_bool (is_ok a)) xs) ≡ count_taken xs
+taken_summed [] = refl
+taken_summed (Ok v ∷ xs) =
+    let before = taken_summed xs in
+    let more : sum (map (λ (a : Answer). from_bool (is_ok a)) (Ok v ∷ xs)) ≡ 1 + sum (map (λ (a : Answer). from_bool (is_ok a)) xs) = sum_by-cons (λ (x : ℕ). x) 1 (map (λ (a : Answer). from_bool (is_ok a)) xs) in
+    omega (arith, before, more)
+taken_summed (Err w ∷ xs) =
+    let before = taken_summed xs in
+    let same : sum (map (λ (a : Answer). from_bool (is_ok a)) (Err w ∷ xs)) ≡ 0 + sum (map (λ (a : Answer). from_bool (is_ok a)) xs) = sum_by-cons (λ (x : ℕ). x) 0 (map (λ (a : Answer). from_bool (is_ok a)) xs) in
+    omega (arith, before, same)
 
 -- every call was taken or refused
 pub all_answered : (xs : List Answer) → count_taken xs + count_refused xs ≡ length xs
@@ -26,24 +33,21 @@ pub first_apart : (f g : ℕ → ℕ) (n : ℕ) (r : Option ℕ)
 first_apart f g n None h = λ k l. h k (omega arith) l
 first_apart f g n (Some i) h = (h.1, h.2, λ k l. h.3 k (omega arith) l)
 
-one_or_none : (k : ℕ) (same : Bool) → length (cond (not same) (k ∷ []) []) ≡ cond same 0 1
-one_or_none k true = refl
-one_or_none k false = refl
+turned : (same : Bool) → from_bool (not same) ≡ cond same 0 1
+turned true = refl
+turned false = refl
 
-pub apart_filtered : (f g : ℕ → ℕ) (n : ℕ) → length (filter (λ k. not (eqb (f k) (g k))) (range_with_len 0 n)) ≡ count_apart f g n
-apart_filtered f g zero = refl
-apart_filtered f g (suc n) =
-    let p : ℕ → Bool = λ k. not (eqb (f k) (g k)) in
-    let more : filter p (range_with_len 0 (n + 1)) ≡ filter p (range_with_len 0 n) ++ cond (p n) (n ∷ []) [] =
-    simp map-id at (filter_of_map_range_with_len_more p (λ (k : ℕ). k) 0 n n (zero-add n)) in
-    let two : length (filter p (range_with_len 0 n) ++ cond (p n) (n ∷ []) []) ≡ length (filter p (range_with_len 0 n)) + length (cond (p n) (n ∷ []) []) =
-    length-append (filter p (range_with_len 0 n)) (cond (p n) (n ∷ []) []) in
-    let h = apart_filtered f g n in
-    let here = one_or_none n (eqb (f n) (g n)) in
-    let last : length (filter p (range_with_len 0 (n + 1))) ≡ count_apart f g n + cond (eqb (f n) (g n)) 0 1 = ap length more ∙ (two ∙ omega (arith, h, here)) in
-    subst (λ (m : ℕ). length (filter p (range_with_len 0 m)) ≡ count_apart f g n + cond (eqb (f n) (g n)) 0 1) (add-one n) last
+pub apart_summed : (f g : ℕ → ℕ) (n : ℕ) → sum (map (λ k. from_bool (not (eqb (f k) (g k)))) (range_with_len 0 n)) ≡ count_apart f g n
+apart_summed f g zero = refl
+apart_summed f g (suc n) =
+    let one : ℕ → ℕ = λ k. from_bool (not (eqb (f k) (g k))) in
+    let more = sum_by-map-range_with_len_more (λ (x : ℕ). x) one 0 n n (zero-add n) in
+    let before = apart_summed f g n in
+    let here = turned (eqb (f n) (g n)) in
+    subst (λ (m : ℕ). sum (map one (range_with_len 0 m)) ≡ count_apart f g (suc n)) (add-one n)
+    (more ∙ omega (arith, before, here))
 
-apart_small : (f g : ℕ → ℕ) (n : ℕ) → count_apart f g n ≤ n
+pub apart_small : (f g : ℕ → ℕ) (n : ℕ) → count_apart f g n ≤ n
 apart_small f g zero = omega arith
 apart_small f g (suc n) = let h = apart_small f g n in elim (eqb (f n) (g n)) as (λ b. count_apart f g n + cond b 0 1 ≤ suc n) [ true ↦ omega arith | false ↦ omega arith ]
 

@@ -22,11 +22,6 @@ pub record DiffersFirst (s : Shape) (h h' : Contents) (d : Difference) : Type 0 
 abbrev pub SameRow : Contents → Contents → ℕ → ℕ → Type 0
 SameRow h h' columns row = (column : ℕ) → column < columns → h.code row column ≡ h'.code row column
 
--- the first row below n in which two arrays differ, or none
-abbrev pub FirstRowApart : Contents → Contents → ℕ → ℕ → Option ℕ → Type 0
-FirstRowApart h h' columns n None = (row : ℕ) → row < n → SameRow h h' columns row
-FirstRowApart h h' columns n (Some row) = (row < n) × (SameRow h h' columns row → ⊥) × ((earlier : ℕ) → earlier < row → SameRow h h' columns earlier)
-
 -- A place of the row at which two arrays differ, with both codes. All places before it in the row are equal.
 pub record DiffersInRow (h h' : Contents) (row columns : ℕ) (d : Difference) : Type 0 where
   pub in_row : d.row ≡ row

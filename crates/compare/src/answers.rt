@@ -45,7 +45,11 @@ pub fn same_answers(
 ) -> bool
     ensures { Decides result (answers.now ≡ other_answers.now) }
 {
-    answers == other_answers
+    answers.len() == other_answers.len()
+        && answers
+            .iter()
+            .zip(other_answers)
+            .all(|(answer, other)| same_answer(*answer, *other))
 }
 
 // How many calls were taken; all others were refused.
@@ -53,7 +57,10 @@ fn taken_of(answers: &[Result<u16, Refusal>]) -> usize
     ensures taken { result ≡ count_taken answers.now }
     ensures others { result + count_refused answers.now ≡ length answers.now }
 {
-    answers.iter().filter(|answer| answer.is_ok()).count()
+    answers
+        .iter()
+        .map(|answer| usize::from(answer.is_ok()))
+        .sum()
 }
 
 pub fn count_answers(answers: &[Result<u16, Refusal>]) -> Tally

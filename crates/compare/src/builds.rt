@@ -33,6 +33,19 @@ pub struct Builds<'a, W> {
 }
 
 impl<'a, 't, W: Word> Build<'a, 't, W> {
+    // Words and counts that are lent for different times fit too: a call shortens the longer loan, which a literal of the struct does not.
+    pub fn new(words: &'a mut [W], counts: &'a mut [u8], trace: &'t [u8]) -> Self
+        ensures words { result.words.now ≡ words.old }
+        ensures counts { result.counts.now ≡ counts.old }
+        ensures trace { result.trace.now ≡ trace.now }
+    {
+        Build {
+            words,
+            counts,
+            trace,
+        }
+    }
+
     // A new chip over the memory, for the columns of the part.
     fn open_new(self, opening: Opening) -> Chip<FlatArray<'a, W>>
         ensures opening { result.opening ≡ opening }

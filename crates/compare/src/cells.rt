@@ -2,7 +2,7 @@
 ghost use Rattle.std.specs.Prelude.{◌≡◌, ℕ, ◌+◌, ◌-◌, ◌^◌, ◌≤◌, ◌<◌, Decides, IfNone, IfSome, MatchOption, ◌==◌};
 ghost use Rattle.arrays.specs.Meaning.{Shape};
 ghost use Rattle.rules.specs.Equality.{SameCells};
-ghost use Rattle.compare.specs.Differences.{DiffersInRow, FirstApart, FirstDifference, FirstRowApart, count_apart, count_rows, count_block, same_shape};
+ghost use Rattle.compare.specs.Differences.{DiffersInRow, FirstApart, FirstDifference, SameRow, count_apart, count_rows, count_block, same_shape};
 
 use arrays::CellArray;
 use std::ops::Range;
@@ -35,12 +35,17 @@ impl<'a, A: CellArray, B: CellArray> Pair<'a, A, B> {
     pub fn first_in_row(&self, row: usize, columns: usize) -> Option<usize>
         ensures { FirstApart ((A.CellArray.meaning self.now.one.now).holds.code row) ((B.CellArray.meaning self.now.other.now).holds.code row) columns result }
     {
-        (0..columns).find(|column| !self.is_same(row, *column))
+        for column in 0..columns {
+            if !self.is_same(row, column) {
+                return Some(column);
+            }
+        }
+        None
     }
 
     // The first place of the row at which the arrays differ, within so many columns.
     fn difference_in_row(&self, row: usize, columns: usize) -> Option<Difference>
-        ensures none { IfNone result ((k : ℕ) → k < columns → (A.CellArray.meaning self.now.one.now).holds.code row k ≡ (B.CellArray.meaning self.now.other.now).holds.code row k) }
+        ensures none { IfNone result (SameRow (A.CellArray.meaning self.now.one.now).holds (B.CellArray.meaning self.now.other.now).holds columns row) }
         ensures some { IfSome result (λ d. DiffersInRow (A.CellArray.meaning self.now.one.now).holds (B.CellArray.meaning self.now.other.now).holds row columns d) }
     {
         let column = self.first_in_row(row, columns)?;
@@ -52,11 +57,13 @@ impl<'a, A: CellArray, B: CellArray> Pair<'a, A, B> {
         })
     }
 
-    // The first row, of so many, in which the arrays differ within so many columns.
-    fn first_row_apart(&self, rows: usize, columns: usize) -> Option<usize>
-        ensures { FirstRowApart (A.CellArray.meaning self.now.one.now).holds (B.CellArray.meaning self.now.other.now).holds columns rows result }
+    // The first place of the first rows, row after row, at which the arrays differ within so many columns.
+    fn difference_in_rows(&self, rows: usize, columns: usize) -> Option<Difference>
+        ensures none { IfNone result ((row : ℕ) → row < rows → SameRow (A.CellArray.meaning self.now.one.now).holds (B.CellArray.meaning self.now.other.now).holds columns row) }
+        ensures some { IfSome result (λ d. (d.row < rows) × DiffersInRow (A.CellArray.meaning self.now.one.now).holds (B.CellArray.meaning self.now.other.now).holds d.row columns d) }
+        ensures before { IfSome result (λ d. (row : ℕ) → row < d.row → SameRow (A.CellArray.meaning self.now.one.now).holds (B.CellArray.meaning self.now.other.now).holds columns row) }
     {
-        (0..rows).find(|row| self.first_in_row(*row, columns).is_some())
+        (0..rows).find_map(|row| self.difference_in_row(row, columns))
     }
 
     // The first place, row after row, at which the arrays differ within so many blocks and columns.
@@ -64,8 +71,7 @@ impl<'a, A: CellArray, B: CellArray> Pair<'a, A, B> {
         ensures { FirstDifference record { blocks = blocks; columns = columns } (A.CellArray.meaning self.now.one.now).holds (B.CellArray.meaning self.now.other.now).holds result }
     {
         let rows = 32 * blocks as usize;
-        let row = self.first_row_apart(rows, columns)?;
-        self.difference_in_row(row, columns)
+        self.difference_in_rows(rows, columns)
     }
 
     // How many words of the row, of so many, differ.
@@ -74,8 +80,8 @@ impl<'a, A: CellArray, B: CellArray> Pair<'a, A, B> {
         ensures bound { result ≤ columns }
     {
         (0..usize::from(columns))
-            .filter(|column| !self.is_same(row, *column))
-            .count() as u32
+            .map(|column| u32::from(!self.is_same(row, column)))
+            .sum()
     }
 
     // How many words of some rows differ, of so many a row.

@@ -20,10 +20,13 @@ pub struct PageRegister {
 
 // The torn form of each code. By itself, since its proof is written out: written in the method, it would
 // meet a wrong method before any fact does.
-fn torn_codes<W: Word>(codes: [u16; PLACES]) -> [u16; PLACES]
+fn torn_codes<W: Word>(mut codes: [u16; PLACES]) -> [u16; PLACES]
     ensures { result ≡ map W.kind.torn codes }
 {
-    codes.map(|code| W::torn_code(code))
+    for code in &mut codes {
+        *code = W::torn_code(*code);
+    }
+    codes
 }
 
 impl PageRegister {
